@@ -1,0 +1,33 @@
+// The vocabulary of the dock watch: refusals, modes, item kinds, events and entries.
+mod article;
+mod entry;
+mod field_set;
+mod fields;
+mod kind;
+mod mode;
+mod refusal;
+mod span;
+
+pub use article::Article;
+pub use article::ArticleKind;
+pub use article::ArticlePacked;
+pub use article::ArticleText;
+pub use entry::Entry;
+pub use entry::Event;
+pub use field_set::FieldSet;
+pub use field_set::FieldSetKind;
+pub use field_set::FieldSetPacked;
+pub use field_set::FieldSetText;
+pub use fields::Fields;
+pub use kind::Kind;
+pub use kind::PackedKind;
+pub use kind::TextKind;
+pub use mode::Mode;
+pub use mode::conflict_table_is_even;
+pub use refusal::Layer;
+pub use refusal::Reason;
+pub use refusal::Refusal;
+pub use span::Span;
+pub use span::SpanKind;
+pub use span::SpanPacked;
+pub use span::SpanText;

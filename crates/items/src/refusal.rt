@@ -1,0 +1,93 @@
+// Why a call is refused: a reason, the layer whose check failed, and the entry at which it failed.
+ghost use mathlib.Core.Path.{_≡_};
+ghost use Rattle.items.specs.Refusals.{numberOf, wordOf};
+
+// The sixteen reasons.
+#[derive(Clone, Copy, Debug, PartialEq, Eq)]
+pub enum Reason {
+    BadSize,
+    AfterCrossing,
+    NoSuchBay,
+    BayOpen,
+    BayIdle,
+    NoVacantMark,
+    ItemOutOfRange,
+    ShortHeader,
+    UnknownForm,
+    OtherKind,
+    SpareBitSet,
+    NoOperation,
+    EntryCut,
+    LogTooLong,
+    MemoryTooShort,
+    MalformedLine,
+}
+
+impl Reason {
+    // The number by which a reason is printed.
+    pub fn number(self) -> u8
+        ensures { λ r. ⌜ r ≡ numberOf self ⌝ }
+    {
+        match self {
+            Reason::BadSize => 1,
+            Reason::AfterCrossing => 2,
+            Reason::NoSuchBay => 3,
+            Reason::BayOpen => 4,
+            Reason::BayIdle => 5,
+            Reason::NoVacantMark => 6,
+            Reason::ItemOutOfRange => 7,
+            Reason::ShortHeader => 8,
+            Reason::UnknownForm => 9,
+            Reason::OtherKind => 10,
+            Reason::SpareBitSet => 11,
+            Reason::NoOperation => 12,
+            Reason::EntryCut => 13,
+            Reason::LogTooLong => 14,
+            Reason::MemoryTooShort => 15,
+            Reason::MalformedLine => 16,
+        }
+    }
+}
+
+// The layer whose check failed.
+#[derive(Clone, Copy, Debug, PartialEq, Eq)]
+pub enum Layer {
+    Item,
+    Board,
+    Watch,
+    Log,
+    Text,
+}
+
+impl Layer {
+    // The word by which a layer is printed.
+    pub fn word(self) -> &'static [u8]
+        ensures { λ r. ⌜ now r ≡ wordOf self ⌝ }
+    {
+        match self {
+            Layer::Item => b"item",
+            Layer::Board => b"board",
+            Layer::Watch => b"watch",
+            Layer::Log => b"log",
+            Layer::Text => b"text",
+        }
+    }
+}
+
+// A refused call: nothing has changed, and this says why.
+#[derive(Clone, Copy, Debug, PartialEq, Eq)]
+pub struct Refusal {
+    pub reason: Reason,
+    pub layer: Layer,
+    // The header or first line is entry 0, the first entry is 1; 0 too where no log or list is read or written.
+    pub entry: u64,
+}
+
+impl Refusal {
+    // The refusal of an item outside its range.
+    pub const OUT_OF_RANGE: Refusal = Refusal {
+        reason: Reason::ItemOutOfRange,
+        layer: Layer::Item,
+        entry: 0,
+    };
+}
