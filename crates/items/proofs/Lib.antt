@@ -1,1 +1,4 @@
 mod FieldLists
+mod Pasting
+mod Numbers
+mod Fitting

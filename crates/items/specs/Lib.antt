@@ -3,6 +3,7 @@ pub mod Modes
 pub mod Kinds
 pub mod Entries
 pub mod Lists
+pub mod Lines
 pub mod Articles
 pub mod Spans
 pub mod FieldSets

@@ -33,3 +33,7 @@ wordOf Board = codes "board"
 wordOf Watch = codes "watch"
 wordOf Log = codes "log"
 wordOf Text = codes "text"
+
+-- what a refusal's line begins with
+abbrev pub refused : List ℕ
+refused = codes "REFUSED "

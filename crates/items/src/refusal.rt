@@ -1,6 +1,10 @@
 // Why a call is refused: a reason, the layer whose check failed, and the entry at which it failed.
 ghost use mathlib.Core.Path.{_≡_};
-ghost use Rattle.items.specs.Refusals.{numberOf, wordOf};
+ghost use mathlib.Core.List.{_++_};
+ghost use lib.ListN.{length};
+ghost use Rattle.items.specs.Refusals.{numberOf, wordOf, refused};
+ghost use Rattle.items.specs.Lines.{fitted, pastedIf, refusalLine};
+use crate::line::write_line;
 
 // The sixteen reasons.
 #[derive(Clone, Copy, Debug, PartialEq, Eq)]
@@ -74,6 +78,21 @@ impl Layer {
     }
 }
 
+impl Layer {
+    // The word, behind the one that begins a refusal's line.
+    fn heading(self) -> &'static [u8]
+        ensures { λ r. ⌜ now r ≡ refused ++ wordOf self ⌝ }
+    {
+        match self {
+            Layer::Item => b"REFUSED item",
+            Layer::Board => b"REFUSED board",
+            Layer::Watch => b"REFUSED watch",
+            Layer::Log => b"REFUSED log",
+            Layer::Text => b"REFUSED text",
+        }
+    }
+}
+
 // A refused call: nothing has changed, and this says why.
 #[derive(Clone, Copy, Debug, PartialEq, Eq)]
 pub struct Refusal {
@@ -90,4 +109,13 @@ impl Refusal {
         layer: Layer::Item,
         entry: 0,
     };
+
+    // Writes the line that a program prints for a refusal, where it fits, and answers its length.
+    pub fn write(&self, out: &mut [u8]) -> Option<usize>
+        ensures length { λ r. ⌜ r ≡ fitted (length (now (out .entry))) 0 (length (refusalLine (now (self .entry)))) ⌝ }
+        ensures memory { λ r. ⌜ now (out .exit) ≡ pastedIf r (now (out .entry)) 0 (refusalLine (now (self .entry))) ⌝ }
+    {
+        let word = self.layer.heading();
+        write_line(out, 0, word, self.reason.number() as u64, &[self.entry])
+    }
 }
