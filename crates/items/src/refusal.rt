@@ -7,7 +7,7 @@ ghost use Rattle.items.specs.Lines.{fitted, pastedIf, refusalLine};
 use crate::line::write_line;
 
 // The sixteen reasons.
-#[derive(Clone, Copy, Debug, PartialEq, Eq)]
+#[derive(Clone, Copy, Debug, PartialEq)]
 pub enum Reason {
     BadSize,
     AfterCrossing,
@@ -54,7 +54,7 @@ impl Reason {
 }
 
 // The layer whose check failed.
-#[derive(Clone, Copy, Debug, PartialEq, Eq)]
+#[derive(Clone, Copy, Debug, PartialEq)]
 pub enum Layer {
     Item,
     Board,
@@ -94,7 +94,7 @@ impl Layer {
 }
 
 // A refused call: nothing has changed, and this says why.
-#[derive(Clone, Copy, Debug, PartialEq, Eq)]
+#[derive(Clone, Copy, Debug, PartialEq)]
 pub struct Refusal {
     pub reason: Reason,
     pub layer: Layer,
