@@ -1,4 +1,4 @@
-mod FieldLists
-mod Pasting
-mod Numbers
-mod Fitting
+pub mod FieldLists
+pub mod Pasting
+pub mod Numbers
+pub mod Fitting

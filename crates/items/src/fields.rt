@@ -13,6 +13,15 @@ pub struct Fields {
 }
 
 impl Fields {
+    pub fn none() -> Fields
+        ensures { λ r. ⌜ take (r .count) (r .values) ≡ [] ⌝ }
+    {
+        Fields {
+            values: [0, 0, 0, 0],
+            count: 0,
+        }
+    }
+
     pub fn one(a: u64) -> Fields
         ensures { λ r. ⌜ take (r .count) (r .values) ≡ a ∷ [] ⌝ }
     {
