@@ -1,6 +1,9 @@
 // Text lists: a first line with the kind and the number of bays, then a line for each entry.
+mod translate;
 mod writer;
 mod writing;
 
+pub use translate::log_to_text;
 pub use writer::ListWriter;
+pub use writing::Pass;
 pub use writing::Writing;

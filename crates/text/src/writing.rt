@@ -8,3 +8,10 @@ pub struct Writing {
     pub place: usize,
     pub entries: u64,
 }
+
+// What a pass over a list does: a first pass finds whether all of it can be written, and a second one writes it.
+#[derive(Clone, Copy)]
+pub enum Pass {
+    Measure,
+    Write,
+}
