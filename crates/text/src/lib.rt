@@ -3,6 +3,7 @@ mod translate;
 mod writer;
 mod writing;
 
+pub use translate::ROOM_FOR_ANY_LOG;
 pub use translate::log_to_text;
 pub use writer::ListWriter;
 pub use writing::Pass;

@@ -20,6 +20,10 @@ use packed::Reader;
 use packed::Step;
 use packed::read_header;
 
+// Memory of this size has room for the list of any log: a log has fewer than 65,536 entries, and no line has more than
+// 40 bytes.
+pub const ROOM_FOR_ANY_LOG: usize = 2_621_440;
+
 // A pass over a log: answers how many bytes its list has, where it can be written into this memory.
 fn pass_over<K: TextKind + Copy>(pass: Pass, bytes: &[u8], out: &mut [u8]) -> Result<usize, Refusal>
     ensures answer { λ r. ⌜ r ≡ meant length (translated (K·PackedKind .layout) (K·TextKind .wording) (now (bytes .entry)) (length (now (out .entry)))) ⌝ }
