@@ -18,7 +18,9 @@ fn refuse(rt: &LibcRuntime, refusal: Refusal) -> Result<(), AnyError> {
 
 fn main(rt: LibcRuntime) -> Result<(), AnyError> {
     let mut log = Vec::new(rt.alloc());
-    rt.stdin().take(MOST_BYTES as u64 + 1).read_to_end(&mut log)?;
+    rt.stdin()
+        .take(MOST_BYTES as u64 + 1)
+        .read_to_end(&mut log)?;
     let mut list = Vec::from_elem(rt.alloc(), 0u8, ROOM_FOR_ANY_LOG)?;
     match log_to_text(log.as_slice(), list.as_mut_slice()) {
         Ok(length) => {
