@@ -9,65 +9,65 @@ use borrow.Rule.Slice.PartMut.{putMid}
 use Rattle.std.proofs.shelf.Lists.{drop-drop}
 use Rattle.items.specs.Lines.{over, pasted}
 
-length-over : (d s : List ℕ) → length (over d s) ≡ length d
+length-over : {A : Type 0} (d s : List A) → length (over d s) ≡ length d
 length-over [] s = refl
 length-over (x ∷ d) [] = refl
 length-over (x ∷ d) (y ∷ s) = ap suc (length-over d s)
 
-pub length-pasted : (d : List ℕ) (at : ℕ) (s : List ℕ) → length (pasted d at s) ≡ length d
+pub length-pasted : {A : Type 0} (d : List A) (at : ℕ) (s : List A) → length (pasted d at s) ≡ length d
 length-pasted d zero s = length-over d s
 length-pasted [] (suc at) s = refl
 length-pasted (x ∷ d) (suc at) s = ap suc (length-pasted d at s)
 
-over-none : (d : List ℕ) → over d [] ≡ d
+over-none : {A : Type 0} (d : List A) → over d [] ≡ d
 over-none [] = refl
 over-none (x ∷ d) = refl
 
 -- nothing is no write
-pub pasted-none : (d : List ℕ) (at : ℕ) → pasted d at [] ≡ d
+pub pasted-none : {A : Type 0} (d : List A) (at : ℕ) → pasted d at [] ≡ d
 pasted-none d zero = over-none d
 pasted-none [] (suc at) = refl
 pasted-none (x ∷ d) (suc at) = ap (λ l. x ∷ l) (pasted-none d at)
 
 -- one byte is one write
-pub pasted-one : (d : List ℕ) (at x : ℕ) → set d at x ≡ pasted d at (x ∷ [])
+pub pasted-one : {A : Type 0} (d : List A) (at : ℕ) (x : A) → set d at x ≡ pasted d at (x ∷ [])
 pasted-one [] zero x = refl
 pasted-one [] (suc at) x = refl
 pasted-one (y ∷ d) zero x = ap (λ l. x ∷ l) (sym (over-none d))
 pasted-one (y ∷ d) (suc at) x = ap (λ l. y ∷ l) (pasted-one d at x)
 
-over-pieces : (d s t : List ℕ) → over d (s ++ t) ≡ pasted (over d s) (length s) t
+over-pieces : {A : Type 0} (d s t : List A) → over d (s ++ t) ≡ pasted (over d s) (length s) t
 over-pieces [] [] t = refl
 over-pieces [] (y ∷ s) t = refl
 over-pieces (x ∷ d) [] t = refl
 over-pieces (x ∷ d) (y ∷ s) t = ap (λ l. y ∷ l) (over-pieces d s t)
 
 -- two pieces, one after the other
-pub pasted-pieces : (d : List ℕ) (at : ℕ) (s t : List ℕ) → pasted d at (s ++ t) ≡ pasted (pasted d at s) (at + length s) t
+pub pasted-pieces : {A : Type 0} (d : List A) (at : ℕ) (s t : List A) → pasted d at (s ++ t) ≡ pasted (pasted d at s) (at + length s) t
 pasted-pieces d zero s t = rw zero-add (over-pieces d s t)
 pasted-pieces [] (suc at) s t = rw suc-add refl
 pasted-pieces (x ∷ d) (suc at) s t = rw suc-add (ap (λ l. x ∷ l) (pasted-pieces d at s t))
 
-over-back : (d s t : List ℕ) → over d (s ++ t) ≡ over (pasted d (length s) t) s
+over-back : {A : Type 0} (d s t : List A) → over d (s ++ t) ≡ over (pasted d (length s) t) s
 over-back [] [] t = refl
 over-back [] (y ∷ s) t = refl
 over-back (x ∷ d) [] t = sym (over-none (over (x ∷ d) t))
 over-back (x ∷ d) (y ∷ s) t = ap (λ l. y ∷ l) (over-back d s t)
 
 -- the second of two pieces may be written first
-pub pasted-back : (d : List ℕ) (at : ℕ) (s t : List ℕ) → pasted d at (s ++ t) ≡ pasted (pasted d (at + length s) t) at s
+pub pasted-back : {A : Type 0} (d : List A) (at : ℕ) (s t : List A) → pasted d at (s ++ t) ≡ pasted (pasted d (at + length s) t) at s
 pasted-back d zero s t = rw zero-add (over-back d s t)
 pasted-back [] (suc at) s t = rw suc-add refl
 pasted-back (x ∷ d) (suc at) s t = rw suc-add (ap (λ l. x ∷ l) (pasted-back d at s t))
 
-over-whole : (d s : List ℕ) → length s ≤ length d → over d s ≡ s ++ drop (length s) d
+over-whole : {A : Type 0} (d s : List A) → length s ≤ length d → over d s ≡ s ++ drop (length s) d
 over-whole [] [] h = refl
 over-whole [] (y ∷ s) h = absurd (not-suc-le-zero h)
 over-whole (x ∷ d) [] h = refl
 over-whole (x ∷ d) (y ∷ s) h = ap (λ l. y ∷ l) (over-whole d s (le-of-suc-le-suc h))
 
 -- bytes that fit stand between what was before them and what was after
-pub pasted-whole : (d : List ℕ) (at : ℕ) (s : List ℕ) → at + length s ≤ length d → pasted d at s ≡ take at d ++ (s ++ drop (at + length s) d)
+pub pasted-whole : {A : Type 0} (d : List A) (at : ℕ) (s : List A) → at + length s ≤ length d → pasted d at s ≡ take at d ++ (s ++ drop (at + length s) d)
 pasted-whole d zero s h = rw zero-add (over-whole d s (omega arith))
 pasted-whole [] (suc at) s h = absurd (omega arith)
 pasted-whole (x ∷ d) (suc at) s h = rw suc-add (ap (λ l. x ∷ l) (pasted-whole d at s (omega arith)))

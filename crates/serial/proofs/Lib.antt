@@ -1,0 +1,10 @@
+pub mod ListFacts
+pub mod PathFacts
+pub mod LeadsFacts
+pub mod Ranks
+pub mod Sorting
+pub mod Decisions
+pub mod Serializing
+pub mod SameTransaction
+pub mod Contiguous
+pub mod Effects

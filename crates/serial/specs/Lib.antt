@@ -1,0 +1,5 @@
+pub mod Lists
+pub mod Accesses
+pub mod Paths
+pub mod Arrangements
+pub mod Changes
