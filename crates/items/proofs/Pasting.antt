@@ -77,3 +77,8 @@ pub copied-over : (d : List ℕ) (at : ℕ) (s t : List ℕ) → at + length s �
 copied-over d at s t h e =
     let long : at + length s - at ≡ length s = omega arith in
     rw (e, long, drop-drop, pasted-whole d at s h) refl
+
+-- four pieces, one after the other
+pub pasted-four : {A : Type 0} (d : List A) (p q r s : ℕ) (a b c e : List A) → q ≡ p + length a → r ≡ q + length b → s ≡ r + length c → pasted (pasted (pasted (pasted d p a) q b) r c) s e ≡ pasted d p (a ++ (b ++ (c ++ e)))
+pasted-four d p q r s a b c e i j k =
+    rw (k, j, i) (sym (pasted-pieces d p a (b ++ (c ++ e)) ∙ pasted-pieces (pasted d p a) (p + length a) b (c ++ e) ∙ pasted-pieces (pasted (pasted d p a) (p + length a) b) (p + length a + length b) c e))
