@@ -1,0 +1,5 @@
+pub mod BitLaws
+pub mod BoardLaws
+mod MatrixLaws
+mod Counts
+mod PairLaws

@@ -1,0 +1,4 @@
+pub mod BaySets
+pub mod Boards
+pub mod Matrices
+pub mod PairLists
