@@ -1,2 +1,3 @@
 mod Passes
 mod Memory
+pub mod WordFacts
