@@ -1,4 +1,5 @@
 pub mod Lists
 pub mod Words
+pub mod Tokens
 pub mod Writing
 pub mod Translation

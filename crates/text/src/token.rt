@@ -5,7 +5,8 @@ ghost use Prim.Native.Nat.{_≤_};
 ghost use lib.ListN.{length};
 ghost use Rattle.std.specs.Options.{mapped};
 ghost use Rattle.std.specs.shelf.Text.{allDigits};
-ghost use Rattle.text.specs.Words.{before, behind, isNumber, readOn};
+ghost use Rattle.text.specs.Tokens.{partMeant};
+ghost use Rattle.text.specs.Words.{before, behind, isNumber, readOn, partOf, restOf};
 
 // How many bytes stand before the first byte of this value.
 pub(crate) fn before_mark(bytes: &[u8], mark: u8) -> usize
@@ -78,5 +79,21 @@ fn split_word<'a>(text: &'a [u8]) -> (&'a [u8], Option<&'a [u8]>)
         (word, Some(&text[end + 1..]))
     } else {
         (word, None)
+    }
+}
+
+// The first part of what is left of a line, and what is left behind it.
+pub(crate) fn next_token<'a>(text: Option<&'a [u8]>) -> (Token<'a>, Option<&'a [u8]>)
+    ensures part { λ r. ⌜ partMeant (r .0) ≡ partOf (mapped now (text .entry)) ⌝ }
+    ensures rest { λ r. ⌜ mapped now (r .1) ≡ restOf (mapped now (text .entry)) ⌝ }
+{
+    let Some(text) = text else {
+        return (Token::End, None);
+    };
+    let (word, rest) = split_word(text);
+    if is_number(word) {
+        (Token::Number(word), rest)
+    } else {
+        (Token::Word(word), rest)
     }
 }
