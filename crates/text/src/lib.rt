@@ -1,4 +1,5 @@
 // Text lists: a first line with the kind and the number of bays, then a line for each entry.
+mod form;
 mod token;
 mod translate;
 mod writer;
