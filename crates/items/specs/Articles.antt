@@ -26,4 +26,4 @@ abbrev pub articleLayout : Layout
 articleLayout = record { code = 1; width = 14; within = isArticle; packed = articleBits; unpacked = articleOf }
 
 abbrev pub articleWording : Wording
-articleWording = record { word = codes "article"; shown = λ fs. fs; reads = ranged isArticle }
+articleWording = record { word = codes "article"; count = 1; shown = λ fs. fs; reads = ranged isArticle }

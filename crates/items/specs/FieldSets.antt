@@ -30,4 +30,4 @@ abbrev pub fieldSetLayout : Layout
 fieldSetLayout = record { code = 3; width = 18; within = isFieldSet; packed = fieldSetBits; unpacked = fieldSetOf }
 
 abbrev pub fieldSetWording : Wording
-fieldSetWording = record { word = codes "fields"; shown = λ fs. fs; reads = ranged isFieldSet }
+fieldSetWording = record { word = codes "fields"; count = 2; shown = λ fs. fs; reads = ranged isFieldSet }

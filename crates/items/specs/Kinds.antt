@@ -38,10 +38,11 @@ pub record Layout : Type 0 where
   pub packed : List ℕ → ℕ
   pub unpacked : ℕ → Option (List ℕ)
 
--- the form of a kind in a text list: its word on the first line, the numbers that an item shows in a line, and the
--- item that numbers show, if any
+-- the form of a kind in a text list: its word on the first line, how many numbers an item shows in a line, which they
+-- are, and the item that numbers show, if any
 pub record Wording : Type 0 where
   pub word : List ℕ
+  pub count : ℕ
   pub shown : List ℕ → List ℕ
   pub reads : List ℕ → Option (List ℕ)
 

@@ -28,4 +28,4 @@ abbrev pub spanLayout : Layout
 spanLayout = record { code = 2; width = 26; within = isSpan; packed = spanBits; unpacked = spanOf }
 
 abbrev pub spanWording : Wording
-spanWording = record { word = codes "span"; shown = λ fs. fs; reads = ranged isSpan }
+spanWording = record { word = codes "span"; count = 2; shown = λ fs. fs; reads = ranged isSpan }

@@ -92,6 +92,10 @@ pub impl TextKind for Article as ArticleText {
         b"article"
     }
 
+    fn shown_count() -> usize {
+        1
+    }
+
     fn show(&self) -> Fields {
         self.to_fields()
     }

@@ -104,6 +104,10 @@ pub impl TextKind for FieldSet as FieldSetText {
         b"fields"
     }
 
+    fn shown_count() -> usize {
+        2
+    }
+
     fn show(&self) -> Fields {
         self.to_fields()
     }

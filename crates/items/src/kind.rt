@@ -3,6 +3,7 @@ ghost use mathlib.Core.Path.{_≡_};
 ghost use mathlib.Core.Bool.{Bool, true};
 ghost use mathlib.Core.List.{List};
 ghost use Prim.Native.Nat.{ℕ, _^_, _<_, _≤_};
+ghost use lib.ListN.{length};
 ghost use Rattle.std.specs.Orderings.{Decides};
 ghost use Rattle.std.specs.shelf.Lists.{All};
 ghost use Rattle.std.specs.declared.option.Option.the-variants.{Some};
@@ -73,6 +74,8 @@ pub trait TextKind: PackedKind {
 
     law shown_reads_back: { (i : Self) → wording .reads (wording .shown (Self·Kind .fields i)) ≡ Some (Self·Kind .fields i) };
 
+    law shown_is_counted: { (i : Self) → length (wording .shown (Self·Kind .fields i)) ≡ wording .count };
+
     law shown_is_short: { (i : Self) → All (λ n. n ≤ 9999999) (wording .shown (Self·Kind .fields i)) };
 
     law others_are_refused: { (ns fs : List ℕ) → wording .reads ns ≡ Some fs → wording .shown fs ≡ ns };
@@ -80,6 +83,10 @@ pub trait TextKind: PackedKind {
     // The word of this kind on the first line of a list.
     fn kind_word<'a>() -> &'a [u8]
         ensures { λ r. ⌜ now r ≡ wording .word ⌝ };
+
+    // How many numbers stand for an item in a line.
+    fn shown_count() -> usize
+        ensures { λ r. ⌜ r ≡ wording .count ⌝ };
 
     // The numbers that stand for the item in a line.
     fn show(&self) -> Fields

@@ -102,6 +102,10 @@ pub impl TextKind for Span as SpanText {
         b"span"
     }
 
+    fn shown_count() -> usize {
+        2
+    }
+
     fn show(&self) -> Fields {
         self.to_fields()
     }
