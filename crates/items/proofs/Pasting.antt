@@ -82,3 +82,15 @@ copied-over d at s t h e =
 pub pasted-four : {A : Type 0} (d : List A) (p q r s : ℕ) (a b c e : List A) → q ≡ p + length a → r ≡ q + length b → s ≡ r + length c → pasted (pasted (pasted (pasted d p a) q b) r c) s e ≡ pasted d p (a ++ (b ++ (c ++ e)))
 pasted-four d p q r s a b c e i j k =
     rw (k, j, i) (sym (pasted-pieces d p a (b ++ (c ++ e)) ∙ pasted-pieces (pasted d p a) (p + length a) b (c ++ e) ∙ pasted-pieces (pasted (pasted d p a) (p + length a) b) (p + length a + length b) c e))
+
+over-again : {A : Type 0} (d a b : List A) → length a ≤ length b → over (over d a) b ≡ over d b
+over-again [] a b h = refl
+over-again (x ∷ d) [] b h = refl
+over-again (x ∷ d) (y ∷ a) [] h = absurd (omega arith)
+over-again (x ∷ d) (y ∷ a) (z ∷ b) h = ap (λ l. z ∷ l) (over-again d a b (omega arith))
+
+-- what is written over again, and at least as far, does not matter
+pub pasted-again : {A : Type 0} (d : List A) (at : ℕ) (a b : List A) → length a ≤ length b → pasted (pasted d at a) at b ≡ pasted d at b
+pasted-again d zero a b h = over-again d a b h
+pasted-again [] (suc at) a b h = refl
+pasted-again (x ∷ d) (suc at) a b h = ap (λ l. x ∷ l) (pasted-again d at a b h)

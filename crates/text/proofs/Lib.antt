@@ -1,3 +1,4 @@
 mod Passes
 mod Memory
 pub mod WordFacts
+mod Packings

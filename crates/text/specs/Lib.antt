@@ -4,3 +4,4 @@ pub mod Tokens
 pub mod Reads
 pub mod Writing
 pub mod Translation
+pub mod Packs

@@ -32,7 +32,7 @@ abbrev pub listText : Wording → ℕ → Listing → List ℕ
 listText kind bays entries = firstLine kind bays ++ linesOf kind entries
 
 -- what comes next, if nothing was refused
-abbrev pub next : Result Writing Refusal → (Writing → Result Writing Refusal) → Result Writing Refusal
+abbrev pub next : {S : Type 0} → Result S Refusal → (S → Result S Refusal) → Result S Refusal
 next (Ok w) go = go w
 next (Err r) go = Err r
 
