@@ -26,7 +26,7 @@ use Rattle.packed.specs.Packing.{headerBits, entryBits, paddingBits, padded, he
 use Rattle.packed.proofs.BitLists.{length-number-bits}
 use Rattle.packed.proofs.Walks.{Sized, Finds, listing-by-skips, listingFrom, MovedBy}
 use Rattle.text.specs.Packs.{entriesBits, logBits, packs, listListing, packedBehind, packedBits}
-use Rattle.text.specs.Reads.{EntryLine, lineSize, lineAt, entryRead, counted, entryLineOf, onBay, bayBelow, eventRead, listBegun}
+use Rattle.text.specs.Reads.{EntryLine, FirstLine, lineSize, lineAt, entryRead, counted, entryLineOf, firstLineOf, onBay, bayBelow, eventRead, fewBays, begunWith, begunBy, listBegun}
 use Rattle.text.specs.Translation.{next}
 use Rattle.text.specs.Words.{before}
 use Rattle.text.proofs.WordFacts.{line-some}
@@ -55,6 +55,22 @@ finds-lines kind bays =
 
 ok-err : {X Y : Type 0} {Z : Type 0} (x : X) (y : Y) → _≡_ {A = Result X Y} (Ok x) (Err y) → Z
 ok-err x y h = let z : _≡_ {A = ℕ} 0 1 = cc in absurd (omega arith)
+
+begun-with-none : (size : ℕ) (o : Option ℕ) (r : Reading) → begunWith size o ≡ Ok r → r .taken ≡ 0
+begun-with-none size None r h = ok-err r _ (sym h)
+begun-with-none size (Some bays) r h = let same : record { bays = bays; place = size; taken = 0 } ≡ r = cc in sym (ap (λ x. x .taken) same)
+
+begun-known-none : (b : Bool) (size : ℕ) (o : Option ℕ) (x : Refusal) (r : Reading) → cond b (begunWith size o) (Err x) ≡ Ok r → r .taken ≡ 0
+begun-known-none true size o x r h = begun-with-none size o r h
+begun-known-none false size o x r h = ok-err r x (sym h)
+
+begun-by-none : (known : ℕ → Bool) (size : ℕ) (o : Option FirstLine) (r : Reading) → begunBy known size o ≡ Ok r → r .taken ≡ 0
+begun-by-none known size None r h = ok-err r _ (sym h)
+begun-by-none known size (Some l) r h = begun-known-none (known (l .code)) size (fewBays (l .bays)) _ r h
+
+-- a list that was begun has no entry taken
+pub begun-none : (known : ℕ → Bool) (text : List ℕ) (r : Reading) → listBegun known text ≡ Ok r → r .taken ≡ 0
+begun-none known text r h = begun-by-none known (lineSize text) (firstLineOf (before 10 text)) r h
 
 -- where a log ends that has one entry more
 packed-place : (a b c : Bool) (p p′ : Packing) (n : ℕ) (r s t : Refusal) → cond a (cond b (cond c (Ok (record { code = p .code; bays = p .bays; place = p .place + n; entries = p .entries + 1 })) (Err r)) (Err s)) (Err t) ≡ Ok p′ → (p′ .place ≡ p .place + n) × (p′ .entries ≡ p .entries + 1)

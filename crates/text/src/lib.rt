@@ -1,5 +1,6 @@
 // Text lists: a first line with the kind and the number of bays, then a line for each entry.
 mod form;
+mod pack;
 mod reader;
 mod token;
 mod translate;
