@@ -7,6 +7,7 @@ mod translate;
 mod writer;
 mod writing;
 
+pub use pack::text_to_log;
 pub use reader::ListReader;
 pub use translate::ROOM_FOR_ANY_LOG;
 pub use translate::log_to_text;
