@@ -1,18 +1,17 @@
 -- Held marks stay told apart, and only bays hold them, after every call. Assumes nothing.
-use mathlib.Core.Path.{_≡_, refl, sym, ap, ap₂, _∙_}
-use mathlib.Core.Bool.{Bool, true, false, _&&_, _||_, not, cond}
+use mathlib.Core.Path.{_≡_, refl, sym, ap, ap₂}
+use mathlib.Core.Bool.{Bool, true, false, _&&_, _||_, not}
 use mathlib.Core.List.{List, [], _∷_, map}
-use mathlib.Core.Logic.{_⊎_, inl, inr, ⊎-elim}
+use mathlib.Core.Logic.{⊎-elim}
 use Prim.Native.Nat.{ℕ, zero, suc, _<_, _^_}
 use native.Mathlib.Omega.{arith}
-use lib.Dec.{eqb}
 use lib.ListN.{set}
-use Rattle.std.specs.shelf.Lists.{All, Each}
+use Rattle.std.specs.shelf.Lists.{Each}
 use Rattle.std.proofs.shelf.Elements.{all-map, all-set, all-weaker}
 use Rattle.std.proofs.shelf.Tests.{and-from, and-parts, and-right, both-ways, cases-bool, cond-both, or-cases, or-parts, or-right}
 use Rattle.std.proofs.shelf.Ways.{tells}
 use Rattle.items.specs.declared.mode.Mode.{Mode}
-use Rattle.boards.specs.BaySets.{bit, withBay, withoutBay, inEither}
+use Rattle.boards.specs.BaySets.{withBay, withoutBay, inEither}
 use Rattle.boards.proofs.BitLaws.{bit-zero, number-below, number-from-bits}
 use Rattle.marks.specs.Holders.{minusBay, plusAll}
 use Rattle.marks.specs.Marks.{MarkMeant, sameAccess, isVacant, isOf, isHeldOf, holdsEither, freshMark, vacated, joins, inherits, leaves}

@@ -1,25 +1,23 @@
 -- How many marks are held, and which fields and mode. Assumes nothing.
-use mathlib.Core.Path.{_≡_, refl, sym, ap, ap₂, _∙_}
+use mathlib.Core.Path.{_≡_, refl, sym, ap, _∙_}
 use mathlib.Core.Bool.{Bool, true, false, _&&_, _||_, not, cond}
-use mathlib.Core.List.{List, [], _∷_, map}
+use mathlib.Core.List.{List, [], _∷_}
 use mathlib.Core.Logic.{_⊎_, inl, inr, ⊎-elim}
 use Prim.Native.Nat.{ℕ, zero, suc, _<_, _≤_, _^_}
 use native.Mathlib.Omega.{arith}
 use lib.Dec.{eqb, ltb}
 use lib.ListN.{length, set}
 use Rattle.std.specs.Orderings.{Decides}
-use Rattle.std.specs.shelf.Lists.{All}
-use Rattle.std.proofs.shelf.Tests.{and-from, and-parts, both-ways, cases-bool, cases-lt, cond-both, cond-true, cond-false, not-true, or-cases, or-left, or-parts, or-right}
+use Rattle.std.proofs.shelf.Tests.{and-from, and-parts, both-ways, cases-bool, cases-lt, cond-both, cond-true, cond-false, not-true, or-cases, or-left, or-right}
 use Rattle.std.proofs.shelf.Ways.{tells}
 use Rattle.items.specs.declared.mode.Mode.{Mode}
 use Rattle.boards.specs.BaySets.{bit}
-use Rattle.boards.proofs.BitLaws.{bit-zero, number-from-bits, number-same}
-use Rattle.marks.specs.Marks.{MarkMeant, sameAccess, isVacant, isOf, isHeldOf, freshMark, joins}
+use Rattle.boards.proofs.BitLaws.{bit-zero, number-from-bits}
+use Rattle.marks.specs.Marks.{MarkMeant, isVacant, isOf, isHeldOf, freshMark, joins}
 use Rattle.marks.specs.Places.{anyMark, passesAt}
 use Rattle.marks.specs.Holding.{holdsOwn, holdsInherited, heldCount}
 use Rattle.marks.specs.Steps.{firstJoined, HoldStep}
-use Rattle.marks.specs.Apart.{toldApart, isListed, listedOnce, OnlyBays}
-use Rattle.marks.proofs.SameLaws.{access-same, access-equal, access-like, access-comm}
+use Rattle.marks.specs.Apart.{OnlyBays}
 use Rattle.marks.proofs.AnyLaws.{any-weaker}
 use Rattle.marks.proofs.HoldsLaws.{vacant-own, vacant-inherited}
 use Rattle.marks.proofs.HoldEffects.{hold-cases, joined-held}

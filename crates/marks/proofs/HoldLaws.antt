@@ -1,6 +1,6 @@
 -- A hold, made at the place that was found. Assumes nothing.
 use mathlib.Core.Path.{_≡_, refl, sym, ap, _∙_}
-use mathlib.Core.Bool.{Bool, true, false}
+use mathlib.Core.Bool.{true, false}
 use mathlib.Core.List.{List, [], _∷_}
 use Prim.Native.Nat.{ℕ, zero, suc}
 use native.Mathlib.Omega.{arith}
@@ -9,7 +9,7 @@ use Rattle.std.proofs.shelf.Tests.{cond-true, cond-false}
 use Rattle.items.specs.declared.mode.Mode.{Mode}
 use Rattle.marks.specs.Marks.{MarkMeant, isVacant, isHeldOf, freshMark, joins}
 use Rattle.marks.specs.Places.{anyMark, isFirst, passesAt, markAt}
-use Rattle.marks.specs.Steps.{firstJoined, AfterHold, HoldStep}
+use Rattle.marks.specs.Steps.{firstJoined, HoldStep}
 use Rattle.marks.proofs.AnyLaws.{first-passes, passes-any}
 
 module _ (bay : ℕ) (fs : List ℕ) (mode : Mode) where

@@ -1,23 +1,19 @@
 -- What each call does to the two relations, held as own and held as inherited, at every bay. Assumes nothing.
-use mathlib.Core.Path.{_≡_, refl, sym, ap, ap₂, _∙_}
-use mathlib.Core.Bool.{Bool, true, false, _&&_, _||_, not, cond}
-use mathlib.Core.List.{List, [], _∷_, map}
+use mathlib.Core.Path.{_≡_, ap, _∙_}
+use mathlib.Core.Bool.{Bool, true, false, _&&_, _||_, not}
+use mathlib.Core.List.{List, map}
 use Prim.Native.Nat.{ℕ, _<_}
 use native.Mathlib.Omega.{arith}
 use lib.Dec.{eqb}
-use lib.ListN.{set}
-use Rattle.std.proofs.shelf.Tests.{and-parts, cond-both, or-from}
 use Rattle.std.proofs.shelf.Ways.{tells}
 use Rattle.items.specs.declared.mode.Mode.{Mode}
 use Rattle.boards.specs.BaySets.{bit}
 use Rattle.boards.proofs.BitLaws.{bit-zero}
-use Rattle.marks.specs.Marks.{MarkMeant, sameAccess, isVacant, isOf, isHeldOf, freshMark, vacated, joins, inherits, leaves}
-use Rattle.marks.specs.Places.{anyMark, passesAt}
+use Rattle.marks.specs.Marks.{MarkMeant, isVacant, isOf, vacated, inherits, leaves}
 use Rattle.marks.specs.Holding.{holdsOwn, holdsInherited}
-use Rattle.marks.specs.Steps.{firstJoined, AfterHold, HoldStep, allInherited, allLeft, allHandedOn}
-use Rattle.marks.proofs.SameLaws.{access-like}
-use Rattle.marks.proofs.AnyLaws.{any-and, any-map, any-none, any-or, any-same, any-set}
-use Rattle.marks.proofs.BayLaws.{bit-plus, bit-minus, bit-inherits}
+use Rattle.marks.specs.Steps.{allInherited, allLeft, allHandedOn}
+use Rattle.marks.proofs.AnyLaws.{any-and, any-map, any-none, any-or, any-same}
+use Rattle.marks.proofs.BayLaws.{bit-minus, bit-inherits}
 
 -- a vacant mark is held by none
 pub vacant-own : (m : MarkMeant) (b : ℕ) → isVacant m ≡ true → bit (m .own) b ≡ false

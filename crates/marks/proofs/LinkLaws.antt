@@ -1,12 +1,12 @@
 -- The set of the bays that hold a mark against an access, one mark more at a time. Assumes nothing.
 use mathlib.Core.Path.{_≡_, ap, ap₂, _∙_}
-use mathlib.Core.Bool.{Bool, true, false, _&&_, _||_, cond}
+use mathlib.Core.Bool.{Bool, true, false, _&&_, _||_}
 use mathlib.Core.List.{List, [], _∷_, _++_}
-use Prim.Native.Nat.{ℕ, _<_, _^_}
+use Prim.Native.Nat.{ℕ}
 use native.Mathlib.Omega.{arith}
 use Rattle.std.proofs.shelf.Ways.{tells}
 use Rattle.items.specs.declared.mode.Mode.{Mode}
-use Rattle.boards.specs.BaySets.{bit, setNumber}
+use Rattle.boards.specs.BaySets.{bit}
 use Rattle.boards.proofs.BitLaws.{bit-number, bit-zero, number-from-bits, number-same}
 use Rattle.marks.specs.Holders.{plusAll}
 use Rattle.marks.specs.Marks.{MarkMeant, reached}

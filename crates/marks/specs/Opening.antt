@@ -20,16 +20,16 @@ use Rattle.marks.specs.Holding.{meantList}
 abbrev pub badSize : Refusal
 badSize = record { reason = BadSize; layer = Watch; entry = 0 }
 
--- opening: every mark is vacant, or the marks come back as they were, with the refusal
-abbrev pub opened : List MarkMeant → Result (List MarkMeant) (Refusal × List MarkMeant)
-opened ms = cond (leb 1 (length ms) && leb (length ms) 4096) (Ok (map vacated ms)) (Err (badSize, ms))
+-- opening: every mark is vacant, or the marks themselves come back as they were, with the refusal
+abbrev pub opened : {I : Type 0} → (I → List ℕ) → List (Mark I) → Result (List MarkMeant) (Refusal × List (Mark I))
+opened f ms = cond (leb 1 (length ms) && leb (length ms) 4096) (Ok (map vacated (meantMarks f ms))) (Err (badSize, ms))
 
 -- the memory that the answer to opening holds
 abbrev pub heldMemory : {I : Type 0} → Result (MarkList I) (Unopened I) → RefT (List (Mark I))
 heldMemory (Ok l) = l .marks
 heldMemory (Err u) = u .marks
 
--- what the answer to opening means
-abbrev pub meantOpening : {I : Type 0} → (I → List ℕ) → Result (MarkList I) (Unopened I) → Result (List MarkMeant) (Refusal × List MarkMeant)
+-- what the answer to opening means: the list that was opened by its meaning, or the refusal and the marks themselves
+abbrev pub meantOpening : {I : Type 0} → (I → List ℕ) → Result (MarkList I) (Unopened I) → Result (List MarkMeant) (Refusal × List (Mark I))
 meantOpening f (Ok l) = Ok (meantList f l)
-meantOpening f (Err u) = Err (u .refusal, meantMarks f (now (u .marks)))
+meantOpening f (Err u) = Err (u .refusal, now (u .marks))

@@ -6,7 +6,6 @@ ghost use Rattle.marks.specs.Holding.{meantList, holdsOwn, holdsInherited, hel
 ghost use Rattle.marks.specs.Opening.{meantOpening, heldMemory, opened};
 ghost use Rattle.marks.specs.Steps.{HoldStep, allInherited, allLeft, allHandedOn};
 ghost use Rattle.marks.specs.Against.{linkedBy};
-ghost use Rattle.marks.specs.Marks.{meantMarks};
 ghost use Rattle.marks.specs.Places.{Found};
 use crate::mark::Mark;
 use crate::slices::Place;
@@ -55,7 +54,7 @@ pub struct Unopened<'a, I> {
 impl<'a, I: Kind + Copy> MarkList<'a, I> {
     // Opens a list of 1 to 4,096 marks, all of them vacant from then on.
     pub fn open(marks: &'a mut [Mark<I>]) -> Result<MarkList<'a, I>, Unopened<'a, I>>
-        ensures answer { λ r. ⌜ meantOpening fields r ≡ opened (meantMarks fields (now (marks .entry))) ⌝ }
+        ensures answer { λ r. ⌜ meantOpening fields r ≡ opened fields (now (marks .entry)) ⌝ }
         ensures stays { λ r. ⌜ name (heldMemory r) ≡ name (marks .entry) ⌝ }
     {
         if marks.len() < FEWEST || marks.len() > MOST {

@@ -21,11 +21,11 @@ loop-mark-again g c =
     let more = read-more (meantMark (g .I·Kind .fields)) (c .args .marks .now) i (c .mark-item .result) (c .loop-mark-test .taken) (c .mark-item .is) in
     elim (c .if-overlaps .came) [
       | then-overlaps·then-conflicts w ↦
-          w .bays-is ∙ w .plus-all-bays .ensures
-          ∙ linked-more o conflicting (c .args .bay) fs (c .args .mode) (take i all) (take (i + 1) all) m more (c .loop-mark .bays) (w .reached-from .result) (c .loop-mark .inv) (w .reached-from .ensures) (grind arith)
+          rw (w .bays-is, w .plus-all-bays .ensures)
+          (linked-more o conflicting (c .args .bay) fs (c .args .mode) (take i all) (take (i + 1) all) m more (c .loop-mark .bays) (w .reached-from .result) (c .loop-mark .inv) (w .reached-from .ensures) (grind arith))
       | else-overlaps w ↦
           let against : isAgainst o conflicting fs (c .args .mode) m ≡ false = elim (w .else-overlaps .came) [ else-overlaps·by·then-overlaps·else-conflicts v ↦ grind arith | else-overlaps·by·else-overlaps v ↦ grind arith ] in
-          w .bays-is ∙ linked-same o conflicting (c .args .bay) fs (c .args .mode) (take i all) (take (i + 1) all) m more (c .loop-mark .bays) (c .loop-mark .inv) against
+          rw (w .bays-is) (linked-same o conflicting (c .args .bay) fs (c .args .mode) (take i all) (take (i + 1) all) m more (c .loop-mark .bays) (c .loop-mark .inv) against)
     ]
 
 pub returns : need.returns

@@ -1,5 +1,4 @@
 use mathlib.Core.Path.{ap, _∙_}
-use mathlib.Core.List.{map}
 use lib.ListN.{set}
 use Rattle.std.proofs.shelf.Lists.{map-set}
 use Rattle.marks.specs.Marks.{meantMark, meantMarks}
