@@ -163,6 +163,14 @@ byte-count n bs e =
     let long : length (padded 0 bs) ≡ n + (8 - n % 8) % 8 = omega (arith, length-append bs (paddingBits (0 + length bs)), pad-length (0 + length bs)) in
     omega arith
 
+-- bits that make whole bytes, which have room
+abbrev WholeBytes : ℕ → List Bool → Type 0
+WholeBytes room bits = (length bits ≡ 8 * (length bits / 8)) × (length bits / 8 ≤ room)
+
+-- if a log was packed, it has whole bytes, which have room
+abbrev pub Fits : ℕ → Result (List Bool) Refusal → Type 0
+Fits room x = (bits : List Bool) → x ≡ Ok bits → WholeBytes room bits
+
 module _ (layout : Layout) (kind : Wording) (text : List ℕ) (room : ℕ) where
   -- what a pass keeps: it began at a reading and a packing, and goes on from others to the same outcome
   pub record Packs (r₀ : Reading) (p₀ : Packing) (r : Reading) (p : Packing) : Type 0 where
@@ -203,7 +211,7 @@ module _ (layout : Layout) (kind : Wording) (text : List ℕ) (room : ℕ) where
   pub packed-as : (r : Reading) (x : Result Packing Refusal) → listBegun (λ c. eqb c (layout .code)) text ≡ Ok r → next (headerPacks (layout .code) room (r .bays)) (packs layout room (listListing kind text r)) ≡ x → packedBits layout kind text room ≡ meant (λ _. logBits layout (r .bays) (listListing kind text r)) x
   packed-as r x open′ is = ap (packedBehind layout kind text room) open′ ∙ ap (meant (λ _. logBits layout (r .bays) (listListing kind text r))) is
 
-  behind-fits : (bits : List Bool) (r : Reading) (x y : Result Packing Refusal) → headerPacks (layout .code) room (r .bays) ≡ x → next x (packs layout room (listListing kind text r)) ≡ y → meant (λ _. logBits layout (r .bays) (listListing kind text r)) y ≡ Ok bits → (length bits ≡ 8 * (length bits / 8)) × (length bits / 8 ≤ room)
+  behind-fits : (bits : List Bool) (r : Reading) (x y : Result Packing Refusal) → headerPacks (layout .code) room (r .bays) ≡ x → next x (packs layout room (listListing kind text r)) ≡ y → meant (λ _. logBits layout (r .bays) (listListing kind text r)) y ≡ Ok bits → WholeBytes room bits
   behind-fits bits r x (Err e) head is h = ok-err bits e (sym h)
   behind-fits bits r (Err e) (Ok p′) head is h = ok-err p′ e (sym is)
   behind-fits bits r (Ok p₀) (Ok p′) head is h =
@@ -218,12 +226,12 @@ module _ (layout : Layout) (kind : Wording) (text : List ℕ) (room : ℕ) where
       let count : length bits ≡ length all + (8 - length all % 8) % 8 = omega (arith, ap length same, length-append all (paddingBits (0 + length all)), pad-length (0 + length all)) in
       (omega arith, omega (arith, begun .0))
 
-  packed-behind-fits : (bits : List Bool) (x : Result Reading Refusal) → packedBehind layout kind text room x ≡ Ok bits → (length bits ≡ 8 * (length bits / 8)) × (length bits / 8 ≤ room)
+  packed-behind-fits : (bits : List Bool) (x : Result Reading Refusal) → packedBehind layout kind text room x ≡ Ok bits → WholeBytes room bits
   packed-behind-fits bits (Err e) h = ok-err bits e (sym h)
   packed-behind-fits bits (Ok r) h = behind-fits bits r (headerPacks (layout .code) room (r .bays)) _ refl refl h
 
   -- a log that was packed has whole bytes, and they have room
-  pub packed-fits : (bits : List Bool) → packedBits layout kind text room ≡ Ok bits → (length bits ≡ 8 * (length bits / 8)) × (length bits / 8 ≤ room)
+  pub packed-fits : Fits room (packedBits layout kind text room)
   packed-fits bits h = packed-behind-fits bits (listBegun (λ c. eqb c (layout .code)) text) h
 
 behind-room : (layout : Layout) (kind : Wording) (text : List ℕ) (m n : ℕ) → bitRoom m ≡ bitRoom n → (x : Result Reading Refusal) → packedBehind layout kind text m x ≡ packedBehind layout kind text n x
@@ -236,10 +244,6 @@ behind-room layout kind text m n same (Ok r) =
 -- a list is packed alike into memory of which its log may use as much
 pub packed-room : (layout : Layout) (kind : Wording) (text : List ℕ) (m n : ℕ) → bitRoom m ≡ bitRoom n → packedBits layout kind text m ≡ packedBits layout kind text n
 packed-room layout kind text m n same = behind-room layout kind text m n same (listBegun (λ c. eqb c (layout .code)) text)
-
--- what a log of whole bytes that have room is like, if it was packed
-abbrev pub Fits : ℕ → Result (List Bool) Refusal → Type 0
-Fits room x = (bits : List Bool) → x ≡ Ok bits → (length bits ≡ 8 * (length bits / 8)) × (length bits / 8 ≤ room)
 
 -- how many bytes were packed
 pub packed-count : (room : ℕ) (x : Result (List Bool) Refusal) → Fits room x → meant (λ bits. length bits / 8) x ≡ meant length (meant bytesOf x)

@@ -66,7 +66,8 @@ logByKind text room (Some l) =
 abbrev pub logOfText : List ℕ → ℕ → Result (List ℕ) Refusal
 logOfText text room = meant bytesOf (logByKind text room (firstLineOf (before 10 text)))
 
--- the bits of memory after a log was packed into it
+-- the bits of memory after one pass packed a log into it; a pass that was refused may have written there, so it is tried
+-- first on memory that nobody keeps
 abbrev pub PackedInto : List ℕ → Result (List Bool) Refusal → List ℕ → Type 0
 PackedInto memory (Ok bits) after = bitsOf after ≡ pasted (bitsOf memory) 0 bits
 PackedInto memory (Err r) after = Unit {0}
