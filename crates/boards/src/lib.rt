@@ -1,4 +1,6 @@
 // Link boards: which bays link to which.
+#![tactic(auto)]
+
 mod bay_set;
 mod bit_board;
 mod board;

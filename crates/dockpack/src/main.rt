@@ -1,4 +1,6 @@
 // Turns a text list on standard input into a packed log on standard output.
+#![tactic(auto)]
+
 use anyhow::anyhow;
 use packed::MOST_BYTES;
 use std::io::{Read, Write};

@@ -1,4 +1,6 @@
 // Turns a packed log on standard input into a text list on standard output.
+#![tactic(auto)]
+
 use anyhow::anyhow;
 use packed::MOST_BYTES;
 use std::io::{Read, Write};

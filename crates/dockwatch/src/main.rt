@@ -1,4 +1,6 @@
 // Watches a packed log on standard input, and prints what came of it.
+#![tactic(auto)]
+
 use anyhow::anyhow;
 use packed::MOST_BYTES;
 use replay::watch_log;

@@ -1,4 +1,6 @@
 // The vocabulary of the dock watch: refusals, modes, item kinds, events and entries.
+#![tactic(auto)]
+
 mod entry;
 mod fields;
 mod kind;

@@ -41,7 +41,7 @@ impl Mode {
 
 // The table is its own mirror image across the diagonal: a conflict is mutual.
 pub fn conflict_table_is_even() -> usize
-    ensures* { do ⌜ Even (← (⟦CONFLICTS⟧).entry) ⌝ }
+    ensures { Even CONFLICTS }
 {
     CONFLICTS.len()
 }

@@ -1,4 +1,6 @@
 // The three item kinds: articles, spans of bytes and sets of fields.
+#![tactic(auto)]
+
 mod article;
 mod field_set;
 mod span;

@@ -1,4 +1,6 @@
 // Packs many lists and turns them back, and prints a line for each.
+#![tactic(auto)]
+
 use items::Refusal;
 use packed::MOST_BYTES;
 use std::env;

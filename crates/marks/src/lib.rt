@@ -1,4 +1,6 @@
 // Marks: what the watch remembers of accesses, and which bays hold them.
+#![tactic(auto)]
+
 mod holders;
 mod mark;
 mod mark_list;

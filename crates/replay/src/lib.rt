@@ -1,4 +1,6 @@
 // From the bytes of a packed log to the verdict on it.
+#![tactic(auto)]
+
 mod open_bays;
 mod replay;
 mod summary;

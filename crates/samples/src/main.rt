@@ -1,5 +1,7 @@
 // Translates many files, and prints for each what docktext prints: the names before the word `cuts` as they are, those
 // behind it cut at every bit.
+#![tactic(auto)]
+
 mod cut;
 #[cfg(test)]
 mod tests;

@@ -1,6 +1,8 @@
 // Lists of accesses made by transactions: which transaction leads to which, and when a list can be rearranged into a serial one.
 // Each function does nothing: its contract is a theorem,
 // over every test `conflict` of whether two accesses conflict by their items and modes.
+#![tactic(auto)]
+
 ghost use Rattle.std.specs.Prelude.{◌≡◌, Bool, ◌⊎◌, ◌↔◌, List, [], ◌∷◌, ◌++◌, ◌≢◌};
 ghost use Rattle.serial.specs.Accesses.{Access, Leads, Transaction, made_by};
 ghost use Rattle.serial.specs.Arrangements.{OnlyOwnBetween, Serial, Serializable};

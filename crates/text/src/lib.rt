@@ -1,4 +1,6 @@
 // Text lists: a first line with the kind and the number of bays, then a line for each entry.
+#![tactic(auto)]
+
 mod form;
 mod list;
 mod reader;

@@ -1,4 +1,6 @@
 // Translations: from a packed log to a text list, and from a text list to a packed log.
+#![tactic(auto)]
+
 mod to_log;
 mod to_text;
 

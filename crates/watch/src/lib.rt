@@ -1,4 +1,6 @@
 // The watch over the bays: what calls are made, what they answer, and what the answers are worth.
+#![tactic(auto)]
+
 mod answer;
 mod bay_record;
 mod bays;

@@ -5,8 +5,8 @@ use Rattle.items.proofs.Fitting.{length_from, ending_from}
 use Rattle.items.proofs.Pasting.{pasted_one, pasted_pieces}
 use Rattle.items.proofs.line.put_ending.Goals as goal
 
-pub put-spaced-place-requires : goal.put-spaced-place-requires
-put-spaced-place-requires c = omega (arith, length_from c.args.numbers.now c.loop-n.n-index c.loop-n-test.true, c.loop-n.invariant.0)
+pub put_spaced-place-requires : goal.put_spaced-place-requires
+put_spaced-place-requires c = omega (arith, length_from c.args.numbers.now c.loop-n.n-index c.loop-n-test.true, c.loop-n.invariant.0)
 
 pub loop-n-preserved : goal.loop-n-preserved
 loop-n-preserved c =
@@ -14,11 +14,11 @@ loop-n-preserved c =
     let i = c.loop-n.n-index in
     let out = c.loop-n.out in
     let place = c.loop-n.place in
-    let told = c.put-spaced-place.ensures in
+    let told = c.put_spaced-place.ensures in
     let on = ending (drop (i + 1) ns) in
     let long = length_from ns i c.loop-n-test.true in (
-      omega (arith, c.loop-n.invariant.0, told.place, c.put-spaced-place.auto.out),
-      ap (λ d. pasted d c.put-spaced-place.result on) told.memory
+      omega (arith, c.loop-n.invariant.0, told.place, c.put_spaced-place.auto.out),
+      ap (λ d. pasted d c.put_spaced-place.result on) told.memory
           ∙ ap (λ p. pasted (pasted out place (spaced (get_or ns i 0))) p on) told.place
           ∙ sym (pasted_pieces out place (spaced (get_or ns i 0)) on)
           ∙ sym (ap (pasted out place) (ending_from ns i c.loop-n-test.true))

@@ -5,14 +5,14 @@ use Rattle.items.proofs.Pasting.{pasted_one}
 use Rattle.items.proofs.Numbers.{length_decimal_step, last_digit}
 use Rattle.items.proofs.line.put_number.Goals as goal
 
-pub overflow-sub-last : goal.overflow-sub-last
-overflow-sub-last c = omega (arith, decimal_nonempty c.args.n c.ranges.n.fits)
+pub overflow_sub-last : goal.overflow_sub-last
+overflow_sub-last c = omega (arith, decimal_nonempty c.args.n c.ranges.n.fits)
 
 pub loop-rest-init : goal.loop-rest-init
 loop-rest-init c = (omega (arith, decimal_nonempty c.args.n c.ranges.n.fits), c.ranges.n.fits, c.requires, refl)
 
-pub overflow-sub-last-in-loop-rest : goal.overflow-sub-last-in-loop-rest
-overflow-sub-last-in-loop-rest c =
+pub overflow_sub-last-in-loop-rest : goal.overflow_sub-last-in-loop-rest
+overflow_sub-last-in-loop-rest c =
     let rest = c.loop-rest.rest in
     omega (arith, length_decimal_step rest c.loop-rest-test.true c.loop-rest.invariant.1, decimal_nonempty (rest / 10) (omega arith))
 

@@ -10,5 +10,5 @@ returns c =
     let ds = decimal c.args.n in
     record {
       place = omega arith;
-      memory = c.put-number.ensures ∙ ap (λ d. pasted d (at + 1) ds) (pasted_one out at 32) ∙ sym (pasted_pieces out at (32 ∷ []) ds);
+      memory = c.put_number.ensures ∙ ap (λ d. pasted d (at + 1) ds) (pasted_one out at 32) ∙ sym (pasted_pieces out at (32 ∷ []) ds);
     }
