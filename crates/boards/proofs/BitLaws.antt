@@ -28,19 +28,19 @@ module _ (op : ℕ → ℕ → ℕ) (f : Bool → Bool → Bool)
       ∙ ap₂ (λ x y. eqb (op x y) 1) (digit (s / 2 ^ k)) (digit (t / 2 ^ k))
       ∙ digits (bit s k) (bit t k)
 
-pub bit_and : (s t k : ℕ) → bit (bit_and s t) k ≡ (bit s k && bit t k)
-bit_and = by_digits bit_and ◌&&◌ and_shr and_mod (by_cases _ refl refl refl refl)
+pub bit_and_lem : (s t k : ℕ) → bit (bit_and s t) k ≡ (bit s k && bit t k)
+bit_and_lem = by_digits bit_and ◌&&◌ and_shr and_mod (by_cases _ refl refl refl refl)
 
-pub bit_or : (s t k : ℕ) → bit (bit_or s t) k ≡ (bit s k || bit t k)
-bit_or = by_digits bit_or ◌||◌ or_shr or_mod (by_cases _ refl refl refl refl)
+pub bit_or_lem : (s t k : ℕ) → bit (bit_or s t) k ≡ (bit s k || bit t k)
+bit_or_lem = by_digits bit_or ◌||◌ or_shr or_mod (by_cases _ refl refl refl refl)
 
-pub bit_xor : (s t k : ℕ) → bit (bit_xor s t) k ≡ cond (bit s k) (not (bit t k)) (bit t k)
-bit_xor = by_digits bit_xor (λ p q. cond p (not q) q) xor_shr xor_mod (by_cases _ refl refl refl refl)
+pub bit_xor_lem : (s t k : ℕ) → bit (bit_xor s t) k ≡ cond (bit s k) (not (bit t k)) (bit t k)
+bit_xor_lem = by_digits bit_xor (λ p q. cond p (not q) q) xor_shr xor_mod (by_cases _ refl refl refl refl)
 
 -- the bits of s that are not bits of t
 pub bit_clear : (s t k : ℕ) → bit (bit_xor s (bit_and s t)) k ≡ (not (bit t k) && bit s k)
 bit_clear s t k =
-    bit_xor s (bit_and s t) k ∙ ap (λ x. cond (bit s k) (not x) x) (bit_and s t k)
+    bit_xor_lem s (bit_and s t) k ∙ ap (λ x. cond (bit s k) (not x) x) (bit_and_lem s t k)
     ∙ by_cases (λ p q. cond p (not (p && q)) (p && q) ≡ (not q && p)) refl refl refl refl (bit s k) (bit t k)
 
 pub bit_beyond : (n s k : ℕ) → s < 2 ^ n → n ≤ k → bit s k ≡ false

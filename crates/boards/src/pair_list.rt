@@ -2,7 +2,7 @@
 ghost use Rattle.std.specs.Prelude.{◌≡◌, ◌<◌, ◌≤◌, true, false, length, take, filter};
 ghost use Rattle.boards.specs.Boards.{SameLinks, with_pair, bays_into, bays_out_of};
 ghost use Rattle.boards.specs.PairLists.{is_pair, names_bay, spares, listed_links, first_links, all_bays, none_twice};
-ghost use Rattle.boards.specs.PairLaws.{listed-bays};
+ghost use Rattle.boards.specs.PairLaws.{listed_bays};
 
 use crate::bay_set::{BAYS, with_bay};
 use crate::board::{Board, check_bay, check_pair};
@@ -122,7 +122,7 @@ impl Board for PairList {
     // What is listed is linked, wherever it stands: the order is free.
     ghost linked = { λ s. first_links s.count s.pairs };
 
-    ghost only_bays = { λ s a b e. listed-bays (take s.count s.pairs) a b s.bays e };
+    ghost only_bays = { λ s a b e. listed_bays (take s.count s.pairs) a b s.bays e };
 
     fn new() -> PairList {
         PairList {

@@ -2,7 +2,7 @@
 ghost use Rattle.std.specs.Prelude.{◌≡◌, ◌<◌, [], ◌∷◌};
 ghost use Rattle.items.specs.Kinds.{same_fields, item_or, meant, ranged};
 ghost use Rattle.kinds.specs.Articles.{is_article, article_layout, article_wording};
-ghost use Rattle.items.proofs.FieldLists.{same-fields-comm};
+ghost use Rattle.items.proofs.FieldLists.{same_fields_comm};
 ghost use Rattle.std.proofs.Common.{rules, arith};
 
 use items::{Fields, Kind, PackedKind, Refusal, TextKind};
@@ -40,7 +40,7 @@ impl Kind for Article {
 
     ghost same_when_equal = { first_of (Prim.search rules, Prim.grind (arith, Self.row.coded.inj)) };
 
-    ghost overlap_is_mutual = { same-fields-comm };
+    ghost overlap_is_mutual = { same_fields_comm };
 
     fn same(&self, other: &Article) -> bool {
         self.number == other.number

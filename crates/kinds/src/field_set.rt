@@ -5,7 +5,7 @@ ghost use Rattle.kinds.specs.FieldSets.{is_field_set, share_field, field_set_lay
 ghost use Rattle.std.proofs.Common.{arith, rules};
 ghost use Rattle.std.proofs.lemmas.Nat.{and_comm};
 ghost use Rattle.std.proofs.lemmas.Bool.Decides.{nat_tests};
-ghost use Rattle.items.proofs.FieldLists.{of-pairs-comm};
+ghost use Rattle.items.proofs.FieldLists.{of_pairs_comm};
 
 use items::{Fields, Kind, PackedKind, Refusal, TextKind};
 
@@ -54,7 +54,7 @@ impl Kind for FieldSet {
 
     ghost same_when_equal = { first_of (Prim.search rules, Prim.grind (arith, Self.row.coded.inj)) };
 
-    ghost overlap_is_mutual = { of-pairs-comm _ (λ r s q t. let turned = and_comm s t in Prim.grind (arith, nat_tests)) };
+    ghost overlap_is_mutual = { of_pairs_comm _ (λ r s q t. let turned = and_comm s t in Prim.grind (arith, nat_tests)) };
 
     fn same(&self, other: &FieldSet) -> bool {
         self.row == other.row && self.set == other.set

@@ -4,7 +4,7 @@ ghost use Rattle.items.specs.Kinds.{item_or, meant, ranged};
 ghost use Rattle.kinds.specs.Spans.{is_span, share_byte, span_layout, span_wording};
 ghost use Rattle.std.proofs.Common.{arith, rules};
 ghost use Rattle.std.proofs.lemmas.Bool.Decides.{nat_tests};
-ghost use Rattle.items.proofs.FieldLists.{of-pairs-comm};
+ghost use Rattle.items.proofs.FieldLists.{of_pairs_comm};
 
 use items::{Fields, Kind, PackedKind, Refusal, TextKind};
 
@@ -51,7 +51,7 @@ impl Kind for Span {
 
     ghost same_when_equal = { first_of (Prim.search rules, Prim.grind (arith, Self.row.coded.inj)) };
 
-    ghost overlap_is_mutual = { of-pairs-comm _ (λ s l t m. Prim.grind (arith, nat_tests)) };
+    ghost overlap_is_mutual = { of_pairs_comm _ (λ s l t m. Prim.grind (arith, nat_tests)) };
 
     fn same(&self, other: &Span) -> bool {
         self.start == other.start && self.length == other.length

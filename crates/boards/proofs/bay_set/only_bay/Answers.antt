@@ -6,7 +6,7 @@ use Rattle.boards.specs.BaySets.{bit}
 use Rattle.boards.proofs.BitLaws.{bit_power}
 use Rattle.boards.proofs.bay_set.only_bay.Goals as goal
 
-pub returns-then-is-bay : goal.returns-then-is-bay
-returns-then-is-bay c k =
-    let low : c.args.bay < 32 = ltb-true c.args.bay 32 (sym c.if-is-bay.ensures) in
+pub returns-then-is_bay : goal.returns-then-is_bay
+returns-then-is_bay c k =
+    let low : c.args.bay < 32 = ltb-true c.args.bay 32 (sym c.if-is_bay.ensures) in
     ap (λ n. bit n k) (one_shl c.args.bay 32 low) ∙ bit_power c.args.bay k ∙ grind (arith, nat_tests)

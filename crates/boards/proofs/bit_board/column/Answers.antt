@@ -2,16 +2,16 @@ use Rattle.std.proofs.Common.{arith}
 use Rattle.std.proofs.lemmas.Bool.Decides.{nat_tests}
 use Rattle.boards.proofs.BitLaws.{number_from_bits}
 use Rattle.boards.proofs.bit_board.column.Goals as goal
-use Rattle.boards.proofs.bit_board.column.Goals.{then-has-bay, else-has-bay}
+use Rattle.boards.proofs.bit_board.column.Goals.{then-has_bay, else-has_bay}
 
 pub loop-from-preserved : goal.loop-from-preserved
 loop-from-preserved c =
-    elim c.if-has-bay.branch [
-      | then-has-bay w ↦ (
-        rw w.bays-is w.with-bay-bays.type-inv,
-        λ k. let before = c.loop-from.invariant.1 k in let added = w.with-bay-bays.ensures k in rw w.bays-is (grind (arith, nat_tests)),
+    elim c.if-has_bay.branch [
+      | then-has_bay w ↦ (
+        rw w.bays-is w.with_bay-bays.type-inv,
+        λ k. let before = c.loop-from.invariant.1 k in let added = w.with_bay-bays.ensures k in rw w.bays-is (grind (arith, nat_tests)),
       )
-      | else-has-bay w ↦ (
+      | else-has_bay w ↦ (
         rw w.bays-is c.loop-from.invariant.0,
         λ k. let before = c.loop-from.invariant.1 k in rw w.bays-is (grind (arith, nat_tests)),
       )

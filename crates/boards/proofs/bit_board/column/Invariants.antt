@@ -3,6 +3,6 @@ use Rattle.boards.specs.BaySets.{bit}
 use Rattle.boards.specs.Matrices.{cells}
 use Rattle.boards.proofs.bit_board.column.Given as goal
 
-abbrev pub invariant_loop_from : goal.invariant_loop_from
-invariant_loop_from l =
+abbrev pub invariant-loop-from : goal.invariant-loop-from
+invariant-loop-from l =
     (l.bays < 2 ^ 32) × ((k : ℕ) → bit l.bays k ≡ (ltb k l.from && cells l.rows k l.bay))

@@ -1,10 +1,10 @@
 use Rattle.std.proofs.Common.{◌^◌, ◌<◌, ◌∙◌, arith}
 use lib.Bits.{bit_or}
 use Rattle.std.proofs.lemmas.Nat.{or_lt}
-use Rattle.boards.proofs.BitLaws.{bit_or, number_from_bits}
+use Rattle.boards.proofs.BitLaws.{bit_or_lem, number_from_bits}
 use Rattle.marks.proofs.holders.plus_all.Goals as goal
 
 pub returns : goal.returns
 returns c =
     let fits : bit_or c.args.bays c.args.more < 2 ^ 32 = or_lt 32 c.args.bays c.args.more (omega arith) (omega arith) in
-    number_from_bits _ 32 (bit_or c.args.bays c.args.more) fits (λ k l. bit_or c.args.bays c.args.more k ∙ grind arith)
+    number_from_bits _ 32 (bit_or c.args.bays c.args.more) fits (λ k l. bit_or_lem c.args.bays c.args.more k ∙ grind arith)

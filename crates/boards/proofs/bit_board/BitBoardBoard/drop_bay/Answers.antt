@@ -6,8 +6,8 @@ use Rattle.boards.proofs.bit_board.BitBoardBoard.drop_bay.Goals as goal
 
 pub returns : goal.returns
 returns c =
-    let checked = c.in-ok-check-bay.ensures in
+    let checked = c.in_ok-check_bay.ensures in
     record {
       answer = search rules;
-      after = λ a b. let cleared = c.clear-column.ensures a b in let none = bit_zero b in let emptied = cells_set c.clear-column.new.rows c.args.bay 0 a b (search rules) in grind (arith, nat_tests);
+      after = λ a b. let cleared = c.clear_column.ensures a b in let none = bit_zero b in let emptied = cells_set c.clear_column.new.rows c.args.bay 0 a b (search rules) in grind (arith, nat_tests);
     }

@@ -11,8 +11,8 @@ one_more s from to long both new =
 pub bounds-self-self : goal.bounds-self-self
 bounds-self-self c = (one_more c.args.self.now c.args.from c.args.to (search rules) c.requires.both c.requires.new).space
 
-pub invariant-of-self : goal.invariant-of-self
-invariant-of-self c =
+pub invariant_of-self : goal.invariant_of-self
+invariant_of-self c =
     let more = one_more c.args.self.now c.args.from c.args.to (search rules) c.requires.both c.requires.new in
     (omega arith, (more.bays, (more.once, tt)))
 
