@@ -84,7 +84,7 @@ bit_above : (n s k : ℕ) → s < 2 ^ n → bit (s + 2 ^ n) k ≡ (bit s k || eq
 bit_above n s k h =
     let e : bit_or s (2 ^ n) ≡ 2 ^ n + s = rw one-mul at (or_shifted_r 1 n s h) in
     let o : s + 2 ^ n ≡ bit_or s (2 ^ n) = omega arith in
-    ap (λ x. bit x k) o ∙ bit_or s (2 ^ n) k ∙ ap (λ x. bit s k || x) (bit_power n k)
+    ap (λ x. bit x k) o ∙ bit_or_lem s (2 ^ n) k ∙ ap (λ x. bit s k || x) (bit_power n k)
 
 pub number_below : (f : ℕ → Bool) (n : ℕ) → set_number f n < 2 ^ n
 unfolding set_number

@@ -8,7 +8,7 @@ pub loop-from-preserved : goal.loop-from-preserved
 loop-from-preserved c =
     elim c.if-has_bay.branch [
       | then-has_bay w ↦ (
-        rw w.bays-is w.with_bay-bays.type-inv,
+        rw w.bays-is w.with_bay-bays.type_inv,
         λ k. let before = c.loop-from.invariant.1 k in let added = w.with_bay-bays.ensures k in rw w.bays-is (grind (arith, nat_tests)),
       )
       | else-has_bay w ↦ (

@@ -11,7 +11,7 @@ loop-pair-preserved c =
     let here = listed_more c.args.pairs.now c.loop-pair.pair-index (record { from = 0; to = 0 }) c.loop-pair-test.true in
     elim c.if-pair-bay.branch [
       | then-pair-bay w ↦ (
-        rw w.bays-is w.with_bay-bays.type-inv,
+        rw w.bays-is w.with_bay-bays.type_inv,
         λ k. let before = c.loop-pair.invariant.1 k in let added = w.with_bay-bays.ensures k in let more = here k c.args.bay in rw w.bays-is (grind (arith, nat_tests)),
       )
       | else-pair-bay w ↦ (

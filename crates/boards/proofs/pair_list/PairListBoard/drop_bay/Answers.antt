@@ -9,7 +9,11 @@ pub invariant_of-self : goal.invariant_of-self
 invariant_of-self c =
     let pairs = take c.args.self.now.count c.args.self.now.pairs in
     let left = c.keep_others-self.ensures.«kept» in
-    (omega arith, (ap all_bays left ∙ bays_kept c.args.bay pairs c.args.self.now.bays, (ap none_twice left ∙ once_kept c.args.bay pairs c.args.self.now.once, tt)))
+    record {
+      within = omega arith;
+      bays = ap all_bays left ∙ bays_kept c.args.bay pairs c.args.self.now.bays;
+      once = ap none_twice left ∙ once_kept c.args.bay pairs c.args.self.now.once;
+    }
 
 pub returns : goal.returns
 returns c =
