@@ -2,7 +2,7 @@
 use Rattle.std.proofs.Common.{◌≡◌, ℕ, zero, suc, ◌+◌, ◌<◌, Bool, true, false, cond, ◌&&◌, ◌||◌, ◌⊎◌, List, [], ◌∷◌, ◌++◌, map, length, get_or, take, set, refl, ap, ap₂, inl, inr, ⊎_elim, arith}
 use Rattle.std.proofs.lemmas.Bool.{both_ways, cases_Bool, or_cases, or_from, or_left, or_right}
 use Rattle.marks.specs.Marks.{MarkMeant, is_vacant}
-use Rattle.marks.specs.Places.{any_mark, is_first, passes_at_lem}
+use Rattle.marks.specs.Places.{any_mark, is_first, passes_at}
 use Rattle.marks.specs.Holding.{held_count}
 
 module _ (test : MarkMeant → Bool) where
@@ -15,7 +15,7 @@ module _ (test : MarkMeant → Bool) where
   any_at (m ∷ ms) zero d h e = grind arith
   any_at (m ∷ ms) (suc i) d h e = let rest = any_at ms i d (omega arith) e in grind arith
 
-  pub passes_at_lem : (ms : List MarkMeant) (i : ℕ) (d : MarkMeant) → i < length ms → test (get_or ms i d) ≡ true → passes_at_lem test ms i ≡ true
+  pub passes_at_lem : (ms : List MarkMeant) (i : ℕ) (d : MarkMeant) → i < length ms → test (get_or ms i d) ≡ true → passes_at test ms i ≡ true
   passes_at_lem [] i d h e = absurd (omega arith)
   passes_at_lem (m ∷ ms) zero d h e = e
   passes_at_lem (m ∷ ms) (suc i) d h e = passes_at_lem ms i d (omega arith) e
@@ -26,17 +26,17 @@ module _ (test : MarkMeant → Bool) where
   first_at (m ∷ ms) (suc i) d h before e = let rest = first_at ms i d (omega arith) (grind arith) e in grind arith
 
   -- a place at which a mark passes is within the list, and so some mark passes
-  pub passes_within : (ms : List MarkMeant) (p : ℕ) → passes_at_lem test ms p ≡ true → p < length ms
+  pub passes_within : (ms : List MarkMeant) (p : ℕ) → passes_at test ms p ≡ true → p < length ms
   passes_within [] p e = absurd (grind arith)
   passes_within (m ∷ ms) zero e = omega arith
   passes_within (m ∷ ms) (suc p) e = let rest = passes_within ms p e in omega arith
 
-  pub passes_any : (ms : List MarkMeant) (p : ℕ) → passes_at_lem test ms p ≡ true → any_mark test ms ≡ true
+  pub passes_any : (ms : List MarkMeant) (p : ℕ) → passes_at test ms p ≡ true → any_mark test ms ≡ true
   passes_any [] p e = e
   passes_any (m ∷ ms) zero e = grind arith
   passes_any (m ∷ ms) (suc p) e = let rest = passes_any ms p e in grind arith
 
-  pub first_passes : (ms : List MarkMeant) (p : ℕ) → is_first test ms p ≡ true → passes_at_lem test ms p ≡ true
+  pub first_passes : (ms : List MarkMeant) (p : ℕ) → is_first test ms p ≡ true → passes_at test ms p ≡ true
   first_passes [] p e = e
   first_passes (m ∷ ms) zero e = e
   first_passes (m ∷ ms) (suc p) e = first_passes ms p (grind arith)
@@ -55,7 +55,7 @@ module _ (test : MarkMeant → Bool) where
   any_map f (m ∷ ms) = ap (λ x. test (f m) || x) (any_map f ms)
 
   -- a mark is written over that did not pass
-  pub any_set : (ms : List MarkMeant) (p : ℕ) (n : MarkMeant) (was : MarkMeant → Bool) → passes_at_lem was ms p ≡ true → ((m : MarkMeant) → was m ≡ true → test m ≡ false) → any_mark test (set ms p n) ≡ (test n || any_mark test ms)
+  pub any_set : (ms : List MarkMeant) (p : ℕ) (n : MarkMeant) (was : MarkMeant → Bool) → passes_at was ms p ≡ true → ((m : MarkMeant) → was m ≡ true → test m ≡ false) → any_mark test (set ms p n) ≡ (test n || any_mark test ms)
   any_set [] p n was at out = absurd (grind arith)
   any_set (m ∷ ms) zero n was at out = let old = out m at in grind arith
   any_set (m ∷ ms) (suc p) n was at out = let rest = any_set ms p n was at out in grind arith

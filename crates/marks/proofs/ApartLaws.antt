@@ -9,7 +9,7 @@ use Rattle.boards.specs.BaySets.{with_bay, without_bay, in_either}
 use Rattle.boards.proofs.BitLaws.{bit_zero, number_below, number_from_bits}
 use Rattle.marks.specs.Holders.{minus_bay, plus_all}
 use Rattle.marks.specs.Marks.{MarkMeant, same_access, is_vacant, is_of, is_held_of, holds_either, fresh_mark, vacated, joins, inherits, leaves}
-use Rattle.marks.specs.Places.{any_mark, passes_at_lem}
+use Rattle.marks.specs.Places.{any_mark, passes_at}
 use Rattle.marks.specs.Steps.{first_joined, HoldStep, all_inherited, all_left, all_handed_on}
 use Rattle.marks.specs.Apart.{told_apart, OnlyBays}
 use Rattle.marks.proofs.SameLaws.{access_comm}
@@ -110,7 +110,7 @@ module _ (bay : ℕ) (fs : List ℕ) (mode : Mode) where
   still_apart vacant same turned fresh before after e new t a = grind arith
 
   -- a mark that was vacant is given fields and mode that none is held with
-  apart_set : (ms : List MarkMeant) (p : ℕ) → passes_at_lem is_vacant ms p ≡ true → any_mark (is_held_of fs mode) ms ≡ false → told_apart ms ≡ true → told_apart (set ms p (joins bay (fresh_mark fs mode))) ≡ true
+  apart_set : (ms : List MarkMeant) (p : ℕ) → passes_at is_vacant ms p ≡ true → any_mark (is_held_of fs mode) ms ≡ false → told_apart ms ≡ true → told_apart (set ms p (joins bay (fresh_mark fs mode))) ≡ true
   apart_set [] p v new e = absurd (both_ways false refl v)
   apart_set (m ∷ ms) zero v new e =
       let parts = and_parts (is_vacant m || not (any_mark (is_held_of m.fields m.mode) ms)) (told_apart ms) e in

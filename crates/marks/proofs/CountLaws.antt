@@ -6,7 +6,7 @@ use Rattle.items.specs.declared.mode.Mode.{Mode}
 use Rattle.boards.specs.BaySets.{bit}
 use Rattle.boards.proofs.BitLaws.{bit_zero, number_from_bits}
 use Rattle.marks.specs.Marks.{MarkMeant, is_vacant, is_of, is_held_of, fresh_mark, joins}
-use Rattle.marks.specs.Places.{any_mark, passes_at_lem}
+use Rattle.marks.specs.Places.{any_mark, passes_at}
 use Rattle.marks.specs.Holding.{holds_own, holds_inherited, held_count}
 use Rattle.marks.specs.Steps.{first_joined, HoldStep}
 use Rattle.marks.specs.Apart.{OnlyBays}
@@ -39,7 +39,7 @@ module _ (bay : ℕ) (low : bay < 32) (fs : List ℕ) (mode : Mode) where
       not-vacant : is_held_of fs mode m ≡ true → is_vacant m ≡ false
       not-vacant e = let parts = and_parts (is_of fs mode m) (not (is_vacant m)) e in let part = parts.1 in grind arith
 
-  count_set : (ms : List MarkMeant) (p : ℕ) → passes_at_lem is_vacant ms p ≡ true → held_count (set ms p (joins bay (fresh_mark fs mode))) ≡ suc (held_count ms)
+  count_set : (ms : List MarkMeant) (p : ℕ) → passes_at is_vacant ms p ≡ true → held_count (set ms p (joins bay (fresh_mark fs mode))) ≡ suc (held_count ms)
   count_set [] p v = absurd (both_ways false refl v)
   count_set (m ∷ ms) zero v =
       cond-false (is_vacant (joins bay (fresh_mark fs mode))) _ _ (joined_held bay low (fresh_mark fs mode)) ∙ ap suc (sym (cond-true (is_vacant m) _ _ v))

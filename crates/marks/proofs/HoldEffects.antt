@@ -8,7 +8,7 @@ use Rattle.boards.specs.BaySets.{bit}
 use Rattle.boards.proofs.BitLaws.{bit_zero}
 use Rattle.marks.specs.Holders.{plus_bay}
 use Rattle.marks.specs.Marks.{MarkMeant, same_access, is_vacant, is_of, is_held_of, fresh_mark, joins}
-use Rattle.marks.specs.Places.{any_mark, passes_at_lem}
+use Rattle.marks.specs.Places.{any_mark, passes_at}
 use Rattle.marks.specs.Holding.{holds_own, holds_inherited}
 use Rattle.marks.specs.Steps.{first_joined, AfterHold, HoldStep}
 use Rattle.marks.proofs.SameLaws.{access_like}
@@ -43,7 +43,7 @@ module _ (bay : ℕ) (fs : List ℕ) (mode : Mode) where
 
   module _ (ms after : List MarkMeant) where
     -- the three ways in which a hold can go
-    pub hold_cases : (P : List MarkMeant → Type 0) (was-done : Bool) → HoldStep bay fs mode ms was-done after → (was-done ≡ true → any_mark (is_held_of fs mode) ms ≡ true → P (first_joined bay fs mode ms)) → (was-done ≡ true → any_mark (is_held_of fs mode) ms ≡ false → (p : ℕ) → passes_at_lem is_vacant ms p ≡ true → P (set ms p (joins bay (fresh_mark fs mode)))) → (was-done ≡ false → any_mark (is_held_of fs mode) ms ≡ false → any_mark is_vacant ms ≡ false → P ms) → P after
+    pub hold_cases : (P : List MarkMeant → Type 0) (was-done : Bool) → HoldStep bay fs mode ms was-done after → (was-done ≡ true → any_mark (is_held_of fs mode) ms ≡ true → P (first_joined bay fs mode ms)) → (was-done ≡ true → any_mark (is_held_of fs mode) ms ≡ false → (p : ℕ) → passes_at is_vacant ms p ≡ true → P (set ms p (joins bay (fresh_mark fs mode)))) → (was-done ≡ false → any_mark (is_held_of fs mode) ms ≡ false → any_mark is_vacant ms ≡ false → P ms) → P after
     hold_cases P was-done h held vacant nowhere =
         at (any_mark (is_held_of fs mode) ms) (any_mark is_vacant ms) refl refl h.answer h.marks
       where

@@ -5,12 +5,12 @@ use Rattle.items.specs.declared.mode.Mode.{Mode}
 use Rattle.marks.specs.declared.slices.Place.{Place}
 use Rattle.marks.specs.declared.slices.Place.TheVariants.{Held, Vacant, Nowhere}
 use Rattle.marks.specs.Marks.{MarkMeant, is_vacant, is_held_of}
-use Rattle.marks.specs.Places.{any_mark, passes_at_lem, Found}
+use Rattle.marks.specs.Places.{any_mark, passes_at, Found}
 
 -- what is remembered of the first i marks: a vacant one, or that none is
 abbrev pub Spare : List MarkMeant → ℕ → Place → Type 0
 Spare ms i (Held p) = ⊥
-Spare ms i (Vacant p) = passes_at_lem is_vacant ms p ≡ true
+Spare ms i (Vacant p) = passes_at is_vacant ms p ≡ true
 Spare ms i Nowhere = any_mark is_vacant (take i ms) ≡ false
 
 -- none of the first i marks is the one that is looked for

@@ -2,7 +2,7 @@
 use Rattle.std.proofs.Common.{◌≡◌, ℕ, ◌+◌, ◌<◌, Bool, true, false, cond, ◌||◌, List, map, length, get_or, take, ap, ◌∙◌, arith}
 use Rattle.std.proofs.lemmas.List.{length-map}
 use Rattle.marks.specs.Marks.{MarkMeant, is_vacant}
-use Rattle.marks.specs.Places.{any_mark, is_first, passes_at_lem}
+use Rattle.marks.specs.Places.{any_mark, is_first, passes_at}
 use Rattle.marks.specs.Holding.{held_count}
 use Rattle.marks.proofs.SliceLaws.{read_here, read_more}
 use Rattle.marks.proofs.AnyLaws.{any_at, any_push, count_push, first_at, passes_at_lem}
@@ -20,7 +20,7 @@ module _ {A : Type 0} (meant : A → MarkMeant) (xs : List A) (i : ℕ) (x : A) 
   pub any_here : (test : MarkMeant → Bool) → test (meant x) ≡ true → any_mark test (map meant xs) ≡ true
   any_here test t = any_at test (map meant xs) i (meant x) within (ap test (read_here meant xs i x h e (meant x)) ∙ t)
 
-  pub passes_here : (test : MarkMeant → Bool) → test (meant x) ≡ true → passes_at_lem test (map meant xs) i ≡ true
+  pub passes_here : (test : MarkMeant → Bool) → test (meant x) ≡ true → passes_at test (map meant xs) i ≡ true
   passes_here test t = passes_at_lem test (map meant xs) i (meant x) within (ap test (read_here meant xs i x h e (meant x)) ∙ t)
 
   pub first_here : (test : MarkMeant → Bool) → any_mark test (take i (map meant xs)) ≡ false → test (meant x) ≡ true → is_first test (map meant xs) i ≡ true

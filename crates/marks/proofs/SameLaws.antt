@@ -20,20 +20,20 @@ pub fields_same : (fs : List ℕ) → same_fields fs fs ≡ true
 fields_same [] = refl
 fields_same (x ∷ xs) = and_from _ _ (eq-eqb x x refl) (fields_same xs)
 
-abbrev of_row_lem : ℕ → Mode
-of_row_lem zero = Look
-of_row_lem (suc zero) = Set
-of_row_lem (suc (suc zero)) = Add
-of_row_lem (suc (suc (suc n))) = Raise
+abbrev of_row : ℕ → Mode
+of_row zero = Look
+of_row (suc zero) = Set
+of_row (suc (suc zero)) = Add
+of_row (suc (suc (suc n))) = Raise
 
-of_row_lem : (m : Mode) → of_row_lem (row_of m) ≡ m
+of_row_lem : (m : Mode) → of_row (row_of m) ≡ m
 of_row_lem Look = refl
 of_row_lem Set = refl
 of_row_lem Add = refl
 of_row_lem Raise = refl
 
 pub mode_equal : (m n : Mode) → same_mode m n ≡ true → m ≡ n
-mode_equal m n e = sym (of_row_lem m) ∙ ap of_row_lem (eqb-true (row_of m) (row_of n) e) ∙ of_row_lem n
+mode_equal m n e = sym (of_row_lem m) ∙ ap of_row (eqb-true (row_of m) (row_of n) e) ∙ of_row_lem n
 
 -- the same access is one with equal fields and equal mode
 module _ (fs : List ℕ) (m : Mode) where

@@ -1,6 +1,6 @@
 -- Opening a mark list, and its refusal. Assumes nothing.
 use Rattle.std.specs.Prelude.{ℕ, cond, ◌&&◌, List, map, length, Ok, Err, Result, nat_le}
-use Rattle.std.specs.Borrow.{Bor}
+use Rattle.std.specs.Borrow.{MutBor}
 use Rattle.items.specs.declared.refusal.Reason.TheVariants.{BadSize}
 use Rattle.items.specs.declared.refusal.Layer.TheVariants.{Watch}
 use Rattle.items.specs.declared.refusal.Refusal.{Refusal}
@@ -19,7 +19,7 @@ abbrev pub opened : {I : Type 0} → (I → List ℕ) → List (Mark I) → Resu
 opened f ms = cond (nat_le 1 (length ms) && nat_le (length ms) 4096) (Ok (map vacated (meant_marks f ms))) (Err (bad_size, ms))
 
 -- the memory that the answer to opening holds
-abbrev pub held_memory : {I : Type 0} → Result (MarkList I) (Unopened I) → Bor (List (Mark I))
+abbrev pub held_memory : {I : Type 0} → Result (MarkList I) (Unopened I) → MutBor (List (Mark I))
 held_memory (Ok l) = l.marks
 held_memory (Err u) = u.marks
 

@@ -26,7 +26,7 @@ fn same_mode(mode: Mode, other: Mode) -> bool
 impl<I: Kind + Copy> Mark<I> {
     // A mark with this item and mode that no bay holds.
     fn fresh(item: I, mode: Mode) -> Mark<I>
-        ensures { meant_mark fields result ≡ fresh_mark (fields item) mode }
+        ensures { meant_mark I.Kind.fields result ≡ fresh_mark (I.Kind.fields item) mode }
     {
         Mark {
             item,
@@ -38,49 +38,49 @@ impl<I: Kind + Copy> Mark<I> {
 
     // A vacant mark, of any item.
     pub fn vacant(item: I) -> Mark<I>
-        ensures { meant_mark fields result ≡ fresh_mark (fields item) Look }
+        ensures { meant_mark I.Kind.fields result ≡ fresh_mark (I.Kind.fields item) Look }
     {
         Mark::fresh(item, Mode::Look)
     }
 
     // Whether no bay holds the mark.
     pub(crate) fn is_vacant(&self) -> bool
-        ensures { result ≡ is_vacant (meant_mark fields self.now) }
+        ensures { result ≡ is_vacant (meant_mark I.Kind.fields self.now) }
     {
         self.own == 0 && self.inherited == 0
     }
 
     // Whether the mark has this item and mode.
     pub(crate) fn is_of(&self, item: &I, mode: Mode) -> bool
-        ensures { result ≡ is_of (fields item.now) mode (meant_mark fields self.now) }
+        ensures { result ≡ is_of (I.Kind.fields item.now) mode (meant_mark I.Kind.fields self.now) }
     {
         self.item.same(item) && same_mode(self.mode, mode)
     }
 
     // Whether a bay holds the mark, as own or as inherited.
     fn is_held_by(&self, bay: u8) -> bool
-        ensures { result ≡ holds_either bay (meant_mark fields self.now) }
+        ensures { result ≡ holds_either bay (meant_mark I.Kind.fields self.now) }
     {
         has_bay(self.own, bay) || has_bay(self.inherited, bay)
     }
 
     // A mark with this item and mode that one bay holds, as own.
     pub(crate) fn taken(item: I, mode: Mode, bay: u8) -> Mark<I>
-        ensures { meant_mark fields result ≡ joins bay (fresh_mark (fields item) mode) }
+        ensures { meant_mark I.Kind.fields result ≡ joins bay (fresh_mark (I.Kind.fields item) mode) }
     {
         Mark::fresh(item, mode).joined(bay)
     }
 
     // The mark when no bay holds it any more; its item and mode stay.
     pub(crate) fn vacated(self) -> Mark<I>
-        ensures { meant_mark fields result ≡ vacated (meant_mark fields self) }
+        ensures { meant_mark I.Kind.fields result ≡ vacated (meant_mark I.Kind.fields self) }
     {
         Mark::fresh(self.item, self.mode)
     }
 
     // The mark when a bay holds it as own too.
     pub(crate) fn joined(self, bay: u8) -> Mark<I>
-        ensures { meant_mark fields result ≡ joins bay (meant_mark fields self) }
+        ensures { meant_mark I.Kind.fields result ≡ joins bay (meant_mark I.Kind.fields self) }
     {
         Mark {
             own: plus_bay(self.own, bay),
@@ -90,7 +90,7 @@ impl<I: Kind + Copy> Mark<I> {
 
     // The mark when the takers inherit it, if the bay holds it.
     pub(crate) fn inherited_by(self, bay: u8, takers: u32) -> Mark<I>
-        ensures { meant_mark fields result ≡ inherits bay takers (meant_mark fields self) }
+        ensures { meant_mark I.Kind.fields result ≡ inherits bay takers (meant_mark I.Kind.fields self) }
     {
         if !self.is_held_by(bay) {
             return self;
@@ -103,7 +103,7 @@ impl<I: Kind + Copy> Mark<I> {
 
     // The mark when a bay no longer holds it.
     pub(crate) fn left(self, bay: u8) -> Mark<I>
-        ensures { meant_mark fields result ≡ leaves bay (meant_mark fields self) }
+        ensures { meant_mark I.Kind.fields result ≡ leaves bay (meant_mark I.Kind.fields self) }
     {
         Mark {
             own: minus_bay(self.own, bay),
@@ -114,14 +114,14 @@ impl<I: Kind + Copy> Mark<I> {
 
     // The mark when the takers inherit it, if the bay holds it, and the bay no longer holds it.
     pub(crate) fn handed_on(self, bay: u8, takers: u32) -> Mark<I>
-        ensures { meant_mark fields result ≡ hands_on bay takers (meant_mark fields self) }
+        ensures { meant_mark I.Kind.fields result ≡ hands_on bay takers (meant_mark I.Kind.fields self) }
     {
         self.inherited_by(bay, takers).left(bay)
     }
 
     // The other bays that hold the mark, and this one if it holds it as inherited.
     pub(crate) fn reached_from(&self, bay: u8) -> u32
-        ensures { result ≡ reached bay (meant_mark fields self.now) }
+        ensures { result ≡ reached bay (meant_mark I.Kind.fields self.now) }
     {
         plus_all(self.inherited, minus_bay(self.own, bay))
     }

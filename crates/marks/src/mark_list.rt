@@ -42,7 +42,7 @@ pub struct Unopened<'a, I> {
 impl<'a, I: Kind + Copy> MarkList<'a, I> {
     // Opens a list of 1 to 4,096 marks, all of them vacant from then on.
     pub fn open(marks: &'a mut [Mark<I>]) -> Result<MarkList<'a, I>, Unopened<'a, I>>
-        ensures answer { meant_opening fields result ≡ opened fields marks.old }
+        ensures answer { meant_opening I.Kind.fields result ≡ opened I.Kind.fields marks.old }
         ensures stays { (held_memory result).ghost_name ≡ marks.entry.ghost_name }
     {
         if marks.len() < FEWEST || marks.len() > MOST {
@@ -57,7 +57,7 @@ impl<'a, I: Kind + Copy> MarkList<'a, I> {
 
     // Finds a place for an item and a mode.
     fn find(&self, item: &I, mode: Mode) -> Place
-        ensures { Found (meant_list fields self.now) (fields item.now) mode result }
+        ensures { Found (meant_list I.Kind.fields self.now) (I.Kind.fields item.now) mode result }
     {
         find_place(self.marks, item, mode)
     }
@@ -65,7 +65,7 @@ impl<'a, I: Kind + Copy> MarkList<'a, I> {
     // Makes the bay hold as own the first held mark with the item and mode, or else a vacant mark that is given both, and
     // says whether it was done; where there is neither, nothing changes.
     pub fn hold(&mut self, bay: u8, item: I, mode: Mode) -> bool
-        ensures step { HoldStep bay (fields item) mode (meant_list fields self.old) result (meant_list fields self.new) }
+        ensures step { HoldStep bay (I.Kind.fields item) mode (meant_list I.Kind.fields self.old) result (meant_list I.Kind.fields self.new) }
         ensures stays { self.new.marks.ghost_name ≡ self.old.marks.ghost_name }
     {
         match self.find(&item, mode) {
@@ -83,7 +83,7 @@ impl<'a, I: Kind + Copy> MarkList<'a, I> {
 
     // Makes each bay in the set of takers hold as inherited every mark that the bay holds, either way.
     pub fn inherit(&mut self, bay: u8, takers: u32)
-        ensures after { meant_list fields self.new ≡ all_inherited bay takers (meant_list fields self.old) }
+        ensures after { meant_list I.Kind.fields self.new ≡ all_inherited bay takers (meant_list I.Kind.fields self.old) }
         ensures stays { self.new.marks.ghost_name ≡ self.old.marks.ghost_name }
     {
         inherit_all(self.marks, bay, takers);
@@ -91,7 +91,7 @@ impl<'a, I: Kind + Copy> MarkList<'a, I> {
 
     // Makes the bay leave all marks.
     pub fn leave(&mut self, bay: u8)
-        ensures after { meant_list fields self.new ≡ all_left bay (meant_list fields self.old) }
+        ensures after { meant_list I.Kind.fields self.new ≡ all_left bay (meant_list I.Kind.fields self.old) }
         ensures stays { self.new.marks.ghost_name ≡ self.old.marks.ghost_name }
     {
         leave_all(self.marks, bay);
@@ -99,7 +99,7 @@ impl<'a, I: Kind + Copy> MarkList<'a, I> {
 
     // Does both in one pass: the takers inherit, then the bay leaves.
     pub fn hand_on(&mut self, bay: u8, takers: u32)
-        ensures after { meant_list fields self.new ≡ all_handed_on bay takers (meant_list fields self.old) }
+        ensures after { meant_list I.Kind.fields self.new ≡ all_handed_on bay takers (meant_list I.Kind.fields self.old) }
         ensures stays { self.new.marks.ghost_name ≡ self.old.marks.ghost_name }
     {
         hand_on_all(self.marks, bay, takers);
@@ -108,28 +108,28 @@ impl<'a, I: Kind + Copy> MarkList<'a, I> {
     // The set of the other bays that hold, either way, a mark whose item overlaps this one and whose mode conflicts with
     // this one, together with the bay itself if it holds such a mark as inherited.
     pub fn linked_by(&self, bay: u8, item: &I, mode: Mode) -> u32
-        ensures { result ≡ linked_by overlapping conflicting bay (fields item.now) mode (meant_list fields self.now) }
+        ensures { result ≡ linked_by I.Kind.overlapping conflicting bay (I.Kind.fields item.now) mode (meant_list I.Kind.fields self.now) }
     {
         bays_against(self.marks, bay, item, mode)
     }
 
     // How many marks are held.
     pub fn held_count(&self) -> usize
-        ensures { result ≡ held_count (meant_list fields self.now) }
+        ensures { result ≡ held_count (meant_list I.Kind.fields self.now) }
     {
         count_held(self.marks)
     }
 
     // Whether the bay holds the item and mode as own.
     pub fn holds_own(&self, bay: u8, item: &I, mode: Mode) -> bool
-        ensures { result ≡ holds_own (meant_list fields self.now) bay (fields item.now) mode }
+        ensures { result ≡ holds_own (meant_list I.Kind.fields self.now) bay (I.Kind.fields item.now) mode }
     {
         is_own(self.marks, bay, item, mode)
     }
 
     // Whether the bay holds the item and mode as inherited.
     pub fn holds_inherited(&self, bay: u8, item: &I, mode: Mode) -> bool
-        ensures { result ≡ holds_inherited (meant_list fields self.now) bay (fields item.now) mode }
+        ensures { result ≡ holds_inherited (meant_list I.Kind.fields self.now) bay (I.Kind.fields item.now) mode }
     {
         is_inherited(self.marks, bay, item, mode)
     }

@@ -22,7 +22,7 @@ pub(crate) enum Place {
 
 // Finds the first held mark with the same item and mode, or else a vacant mark, or none.
 pub(crate) fn find_place<I: Kind + Copy>(marks: &[Mark<I>], item: &I, mode: Mode) -> Place
-    ensures { Found (meant_marks fields marks.now) (fields item.now) mode result }
+    ensures { Found (meant_marks I.Kind.fields marks.now) (I.Kind.fields item.now) mode result }
 {
     'search: {
         let mut spare = Place::Nowhere;
@@ -42,7 +42,7 @@ pub(crate) fn find_place<I: Kind + Copy>(marks: &[Mark<I>], item: &I, mode: Mode
 
 // Whether a bay holds the item and mode as own.
 pub(crate) fn is_own<I: Kind + Copy>(marks: &[Mark<I>], bay: u8, item: &I, mode: Mode) -> bool
-    ensures { result ≡ holds_own (meant_marks fields marks.now) bay (fields item.now) mode }
+    ensures { result ≡ holds_own (meant_marks I.Kind.fields marks.now) bay (I.Kind.fields item.now) mode }
 {
     for mark in marks {
         if mark.is_of(item, mode) && has_bay(mark.own, bay) {
@@ -54,7 +54,7 @@ pub(crate) fn is_own<I: Kind + Copy>(marks: &[Mark<I>], bay: u8, item: &I, mode:
 
 // Whether a bay holds the item and mode as inherited.
 pub(crate) fn is_inherited<I: Kind + Copy>(marks: &[Mark<I>], bay: u8, item: &I, mode: Mode) -> bool
-    ensures { result ≡ holds_inherited (meant_marks fields marks.now) bay (fields item.now) mode }
+    ensures { result ≡ holds_inherited (meant_marks I.Kind.fields marks.now) bay (I.Kind.fields item.now) mode }
 {
     for mark in marks {
         if mark.is_of(item, mode) && has_bay(mark.inherited, bay) {
@@ -66,7 +66,7 @@ pub(crate) fn is_inherited<I: Kind + Copy>(marks: &[Mark<I>], bay: u8, item: &I,
 
 // How many marks are held.
 pub(crate) fn count_held<I: Kind + Copy>(marks: &[Mark<I>]) -> usize
-    ensures { result ≡ held_count (meant_marks fields marks.now) }
+    ensures { result ≡ held_count (meant_marks I.Kind.fields marks.now) }
 {
     let mut count = 0;
     for mark in marks {
@@ -79,7 +79,7 @@ pub(crate) fn count_held<I: Kind + Copy>(marks: &[Mark<I>]) -> usize
 
 // The bays that hold a mark against this item and mode: either way, but the given bay only as inherited.
 pub(crate) fn bays_against<I: Kind + Copy>(marks: &[Mark<I>], bay: u8, item: &I, mode: Mode) -> u32
-    ensures { result ≡ linked_by overlapping conflicting bay (fields item.now) mode (meant_marks fields marks.now) }
+    ensures { result ≡ linked_by I.Kind.overlapping conflicting bay (I.Kind.fields item.now) mode (meant_marks I.Kind.fields marks.now) }
 {
     let mut bays = 0;
     for mark in marks {
@@ -92,7 +92,7 @@ pub(crate) fn bays_against<I: Kind + Copy>(marks: &[Mark<I>], bay: u8, item: &I,
 
 // Vacates all marks.
 pub(crate) fn vacate_all<I: Kind + Copy>(marks: &mut [Mark<I>])
-    ensures { meant_marks fields marks.new ≡ map vacated (meant_marks fields marks.old) }
+    ensures { meant_marks I.Kind.fields marks.new ≡ map vacated (meant_marks I.Kind.fields marks.old) }
 {
     for mark in marks.iter_mut() {
         *mark = mark.vacated();
@@ -101,7 +101,7 @@ pub(crate) fn vacate_all<I: Kind + Copy>(marks: &mut [Mark<I>])
 
 // Makes the takers inherit the marks that the bay holds.
 pub(crate) fn inherit_all<I: Kind + Copy>(marks: &mut [Mark<I>], bay: u8, takers: u32)
-    ensures { meant_marks fields marks.new ≡ all_inherited bay takers (meant_marks fields marks.old) }
+    ensures { meant_marks I.Kind.fields marks.new ≡ all_inherited bay takers (meant_marks I.Kind.fields marks.old) }
 {
     for mark in marks.iter_mut() {
         *mark = mark.inherited_by(bay, takers);
@@ -110,7 +110,7 @@ pub(crate) fn inherit_all<I: Kind + Copy>(marks: &mut [Mark<I>], bay: u8, takers
 
 // Makes the bay leave all marks.
 pub(crate) fn leave_all<I: Kind + Copy>(marks: &mut [Mark<I>], bay: u8)
-    ensures { meant_marks fields marks.new ≡ all_left bay (meant_marks fields marks.old) }
+    ensures { meant_marks I.Kind.fields marks.new ≡ all_left bay (meant_marks I.Kind.fields marks.old) }
 {
     for mark in marks.iter_mut() {
         *mark = mark.left(bay);
@@ -119,7 +119,7 @@ pub(crate) fn leave_all<I: Kind + Copy>(marks: &mut [Mark<I>], bay: u8)
 
 // Makes the takers inherit the marks that the bay holds, and the bay leave all marks.
 pub(crate) fn hand_on_all<I: Kind + Copy>(marks: &mut [Mark<I>], bay: u8, takers: u32)
-    ensures { meant_marks fields marks.new ≡ all_handed_on bay takers (meant_marks fields marks.old) }
+    ensures { meant_marks I.Kind.fields marks.new ≡ all_handed_on bay takers (meant_marks I.Kind.fields marks.old) }
 {
     for mark in marks.iter_mut() {
         *mark = mark.handed_on(bay, takers);
@@ -129,7 +129,7 @@ pub(crate) fn hand_on_all<I: Kind + Copy>(marks: &mut [Mark<I>], bay: u8, takers
 // Makes the bay hold the mark at a place as own too.
 pub(crate) fn join_at<I: Kind + Copy>(marks: &mut [Mark<I>], place: usize, bay: u8)
     requires { place < length marks.old }
-    ensures { meant_marks fields marks.new ≡ slice_set (meant_marks fields marks.old) place (joins bay (mark_at (meant_marks fields marks.old) place)) }
+    ensures { meant_marks I.Kind.fields marks.new ≡ slice_set (meant_marks I.Kind.fields marks.old) place (joins bay (mark_at (meant_marks I.Kind.fields marks.old) place)) }
 {
     marks[place] = marks[place].joined(bay);
 }
@@ -143,7 +143,7 @@ pub(crate) fn take_at<I: Kind + Copy>(
     mode: Mode,
 )
     requires { place < length marks.old }
-    ensures { meant_marks fields marks.new ≡ slice_set (meant_marks fields marks.old) place (joins bay (fresh_mark (fields item) mode)) }
+    ensures { meant_marks I.Kind.fields marks.new ≡ slice_set (meant_marks I.Kind.fields marks.old) place (joins bay (fresh_mark (I.Kind.fields item) mode)) }
 {
     marks[place] = Mark::taken(item, mode, bay);
 }

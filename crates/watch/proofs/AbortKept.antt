@@ -8,7 +8,7 @@ use Rattle.marks.specs.Apart.{told_apart, OnlyBays}
 use Rattle.marks.proofs.HoldsLaws.{leave_own, leave_inherited}
 use Rattle.marks.proofs.ApartLaws.{leave_apart, leave_bays}
 use Rattle.watch.specs.declared.answer.Answer.TheVariants.{Done}
-use Rattle.watch.specs.Histories.{History, Call, is_open_lem, ended, open_transaction, accesses}
+use Rattle.watch.specs.Histories.{History, Call, is_open, ended, open_transaction, accesses}
 use Rattle.watch.specs.States.{State}
 use Rattle.watch.specs.Steps.{Step}
 use Rattle.watch.specs.Accounts.{Account, Path, MadeAccess, ReachesAccess}
@@ -81,7 +81,7 @@ module _ (overlapping : List ℕ → List ℕ → Bool) (conflicting : Mode → 
         bays_have_records = room_kept overlapping conflicting h s t (abort_of b) Done was step in_bay;
         accesses_are_numbered =
             every_map _ _
-            (λ x. numbered_ended (eqb x.transaction.bay b) x.transaction.number (ended h x.transaction.bay) (is_open_lem h x.transaction.bay))
+            (λ x. numbered_ended (eqb x.transaction.bay b) x.transaction.number (ended h x.transaction.bay) (is_open h x.transaction.bay))
             (accesses h) was.accesses_are_numbered;
         committed_have_no_cycle = was.committed_have_no_cycle;
       }

@@ -16,7 +16,7 @@ use Rattle.marks.proofs.AgainstLaws.{linked_decides}
 use Rattle.marks.proofs.HoldEffects.{hold_own, hold_inherited}
 use Rattle.marks.proofs.ApartLaws.{hold_apart, hold_bays}
 use Rattle.watch.specs.declared.answer.Answer.TheVariants.{Done}
-use Rattle.watch.specs.Histories.{History, Call, Access, made_by, is_open_lem, open_transaction, is_committed, accesses, has_crossed, conflict}
+use Rattle.watch.specs.Histories.{History, Call, Access, made_by, is_open, open_transaction, is_committed, accesses, has_crossed, conflict}
 use Rattle.watch.specs.States.{State}
 use Rattle.watch.specs.Steps.{Step, answer_in}
 use Rattle.watch.specs.Accounts.{Account, Path, MadeAccess, ReachesAccess, is_access_to, Numbered}
@@ -36,9 +36,9 @@ module _ (overlapping : List ℕ → List ℕ → Bool) (conflicting : Mode → 
   in_bay : b < s.bays
   in_bay = (passed s (access_of b fs m) Done step.answer refl).1
 
-  is_open_lem : is_open_lem h b ≡ true
+  is_open_lem : is_open h b ≡ true
   is_open_lem =
-      access_taken (is_open_lem h b) Done b s m fs refl
+      access_taken (is_open h b) Done b s m fs refl
       ((passed s (access_of b fs m) Done step.answer refl).2 ∙ ap (λ x. answer_in x (Event.Access m fs) b s) (was.bays_are_open_as_in_the_history b))
 
   abbrev after : History
@@ -62,14 +62,14 @@ module _ (overlapping : List ℕ → List ℕ → Bool) (conflicting : Mode → 
 
   -- The bays that hold a mark against the access are those whose open transactions do so.
   links_new : has_crossed h ≡ false → (k : ℕ) → k < 32 →
-      (bit (linked_by overlapping conflicting b fs m s.marks) k ≡ true) ↔ ((is_open_lem h k ≡ true) × Meets (open_transaction h k))
+      (bit (linked_by overlapping conflicting b fs m s.marks) k ≡ true) ↔ ((is_open h k ≡ true) × Meets (open_transaction h k))
   links_new clean k low = (λ e. go (decides.0 e), λ r. decides.1 (back r.0 r.1))
     where
       decides : (bit (linked_by overlapping conflicting b fs m s.marks) k ≡ true) ↔ ((gs : List ℕ) × (other : Mode) × ((overlapping fs gs && conflicting m other) ≡ true) × ((holds_inherited s.marks k gs other || (not (eqb k b) && holds_own s.marks k gs other)) ≡ true))
       decides = linked_decides overlapping conflicting b fs m k low s.marks
 
       go : (gs : List ℕ) × (other : Mode) × ((overlapping fs gs && conflicting m other) ≡ true) × ((holds_inherited s.marks k gs other || (not (eqb k b) && holds_own s.marks k gs other)) ≡ true) →
-          (is_open_lem h k ≡ true) × Meets (open_transaction h k)
+          (is_open h k ≡ true) × Meets (open_transaction h k)
       go (gs, other, against, held) =
           ⊎_elim
           (λ e.
@@ -81,7 +81,7 @@ module _ (overlapping : List ℕ → List ℕ → Bool) (conflicting : Mode → 
           (o, inl (made_conflicting overlapping conflicting mutual-overlap mutual-conflict (accesses h) new (open_transaction h k) (λ e. eqb-false k b (not-true (eqb k b) ne) (ap (λ u. u.bay) e)) gs other against made)))
           (or_cases (holds_inherited s.marks k gs other) (not (eqb k b) && holds_own s.marks k gs other) held)
 
-      back : is_open_lem h k ≡ true → Meets (open_transaction h k) →
+      back : is_open h k ≡ true → Meets (open_transaction h k) →
           (gs : List ℕ) × (other : Mode) × ((overlapping fs gs && conflicting m other) ≡ true) × ((holds_inherited s.marks k gs other || (not (eqb k b) && holds_own s.marks k gs other)) ≡ true)
       back o (inl met) =
           let (gs, other, against, made, differ) = conflicting_made overlapping conflicting mutual-overlap mutual-conflict (accesses h) new (open_transaction h k) met in
@@ -94,7 +94,7 @@ module _ (overlapping : List ℕ → List ℕ → Bool) (conflicting : Mode → 
   path_after u v = path_push made_by (conflict overlapping conflicting) (In (is_committed h)) (accesses h) new barred u v
 
   links_kept : has_crossed h ≡ false → (p q : ℕ) → p < 32 → q < 32 →
-      (t.links p q ≡ true) ↔ ((is_open_lem h p ≡ true) × (is_open_lem h q ≡ true) × Path overlapping conflicting after (open_transaction h p) (open_transaction h q))
+      (t.links p q ≡ true) ↔ ((is_open h p ≡ true) × (is_open h q ≡ true) × Path overlapping conflicting after (open_transaction h p) (open_transaction h q))
   links_kept clean p q lp lq = (λ k. go (or_cases _ _ (sym e ∙ k)), λ r. e ∙ back r.0 r.1 ((path_after (open_transaction h p) (open_transaction h q)).0 r.2))
     where
       froms : ℕ
@@ -104,16 +104,16 @@ module _ (overlapping : List ℕ → List ℕ → Bool) (conflicting : Mode → 
       e = step.links p q lp lq
 
       go : ((eqb q b && bit froms p) ≡ true) ⊎ (s.links p q ≡ true) →
-          (is_open_lem h p ≡ true) × (is_open_lem h q ≡ true) × Path overlapping conflicting after (open_transaction h p) (open_transaction h q)
+          (is_open h p ≡ true) × (is_open h q ≡ true) × Path overlapping conflicting after (open_transaction h p) (open_transaction h q)
       go (inl k) =
           let (here, one) = and_parts (eqb q b) (bit froms p) k in let same = eqb-true q b here in
           let (o, meets) = (links_new clean p lp).0 one in
-          (o, ap (is_open_lem h) same ∙ is_open_lem, (path_after (open_transaction h p) (open_transaction h q)).1 (inr (ap (open_transaction h) same, meets)))
+          (o, ap (is_open h) same ∙ is_open_lem, (path_after (open_transaction h p) (open_transaction h q)).1 (inr (ap (open_transaction h) same, meets)))
       go (inr k) =
           let (op, oq, path) = (was.links_are_paths clean p q lp lq).0 k in
           (op, oq, (path_after (open_transaction h p) (open_transaction h q)).1 (inl path))
 
-      back : is_open_lem h p ≡ true → is_open_lem h q ≡ true →
+      back : is_open h p ≡ true → is_open h q ≡ true →
           Path overlapping conflicting h (open_transaction h p) (open_transaction h q) ⊎ ((open_transaction h q ≡ open_transaction h b) × Meets (open_transaction h p)) →
           ((eqb q b && bit froms p) || s.links p q) ≡ true
       back op oq (inl path) = or_right (eqb q b && bit froms p) _ ((was.links_are_paths clean p q lp lq).1 (op, oq, path))
@@ -121,7 +121,7 @@ module _ (overlapping : List ℕ → List ℕ → Bool) (conflicting : Mode → 
           or_left _ (s.links p q) (and_from _ _ (eq-eqb q b (ap (λ u. u.bay) same)) ((links_new clean p lp).1 (op, meets)))
 
   own_kept : has_crossed h ≡ false → (k : ℕ) → k < 32 → (gs : List ℕ) (other : Mode) →
-      (holds_own t.marks k gs other ≡ true) ↔ ((is_open_lem h k ≡ true) × MadeAccess after gs other (open_transaction h k))
+      (holds_own t.marks k gs other ≡ true) ↔ ((is_open h k ≡ true) × MadeAccess after gs other (open_transaction h k))
   own_kept clean k low gs other = (λ l. go (or_cases _ _ (sym e ∙ l)), λ r. e ∙ back r.0 (push.0 r.1))
     where
       e : holds_own t.marks k gs other ≡ ((eqb k b && same_access fs m gs other) || holds_own s.marks k gs other)
@@ -131,17 +131,17 @@ module _ (overlapping : List ℕ → List ℕ → Bool) (conflicting : Mode → 
           (MadeAccess h gs other (open_transaction h k) ⊎ ((open_transaction h b ≡ open_transaction h k) × (same_access fs m gs other ≡ true)))
       push = some_push (λ x. (made_by x ≡ open_transaction h k) × (is_access_to gs other x ≡ true)) (accesses h) new
 
-      old : (holds_own s.marks k gs other ≡ true) ↔ ((is_open_lem h k ≡ true) × MadeAccess h gs other (open_transaction h k))
+      old : (holds_own s.marks k gs other ≡ true) ↔ ((is_open h k ≡ true) × MadeAccess h gs other (open_transaction h k))
       old = was.own_marks_are_accesses_of_the_open_transaction clean k low gs other
 
       go : ((eqb k b && same_access fs m gs other) ≡ true) ⊎ (holds_own s.marks k gs other ≡ true) →
-          (is_open_lem h k ≡ true) × MadeAccess after gs other (open_transaction h k)
+          (is_open h k ≡ true) × MadeAccess after gs other (open_transaction h k)
       go (inl l) =
           let (here, same) = and_parts (eqb k b) (same_access fs m gs other) l in let at = eqb-true k b here in
-          (ap (is_open_lem h) at ∙ is_open_lem, push.1 (inr (sym (ap (open_transaction h) at), same)))
+          (ap (is_open h) at ∙ is_open_lem, push.1 (inr (sym (ap (open_transaction h) at), same)))
       go (inr l) = let (o, made) = old.0 l in (o, push.1 (inl made))
 
-      back : is_open_lem h k ≡ true → MadeAccess h gs other (open_transaction h k) ⊎ ((open_transaction h b ≡ open_transaction h k) × (same_access fs m gs other ≡ true)) →
+      back : is_open h k ≡ true → MadeAccess h gs other (open_transaction h k) ⊎ ((open_transaction h b ≡ open_transaction h k) × (same_access fs m gs other ≡ true)) →
           ((eqb k b && same_access fs m gs other) || holds_own s.marks k gs other) ≡ true
       back o (inl made) = or_right (eqb k b && same_access fs m gs other) _ (old.1 (o, made))
       back o (inr (at, same)) = or_left _ (holds_own s.marks k gs other) (and_from _ _ (eq-eqb k b (ap (λ u. u.bay) (sym at))) same)

@@ -8,7 +8,7 @@ use Rattle.items.specs.declared.mode.Mode.{Mode}
 use Rattle.items.specs.declared.refusal.Reason.TheVariants.{NoSuchBay, NoVacantMark}
 use Rattle.watch.specs.declared.answer.Answer.{Answer}
 use Rattle.watch.specs.declared.answer.Answer.TheVariants.{Done, Committed}
-use Rattle.watch.specs.Histories.{History, Call, is_open_lem, has_crossed}
+use Rattle.watch.specs.Histories.{History, Call, is_open, has_crossed}
 use Rattle.watch.specs.States.{State, record_at}
 use Rattle.watch.specs.Steps.{refused_for, has_place, verdict_on, answer_in, answer_under, answer_to}
 use Rattle.watch.specs.Accounts.{Account, state_when, verdict_when}
@@ -60,7 +60,7 @@ module _ (overlapping : List ℕ → List ℕ → Bool) (conflicting : Mode → 
       in_bay : has_crossed h ≡ false → c.bay < s.bays → here s ≡ here t
       in_bay clean low =
           ap (λ x. answer_in x c.event c.bay s) (was.bays_are_open_as_in_the_history c.bay)
-          ∙ same_in clean c.bay low c.event (is_open_lem h c.bay)
+          ∙ same_in clean c.bay low c.event (is_open h c.bay)
           ∙ sym (ap (λ x. answer_in x c.event c.bay t) (also.bays_are_open_as_in_the_history c.bay))
 
       at : (o : Bool) → has_crossed h ≡ o → answer_under (verdict_when o) c s ≡ answer_under (verdict_when o) c t

@@ -8,7 +8,7 @@ use Rattle.serial.proofs.ListFacts.{every_map, some_map}
 use Rattle.marks.specs.Holding.{holds_own, holds_inherited}
 use Rattle.marks.specs.Apart.{told_apart, OnlyBays}
 use Rattle.watch.specs.declared.answer.Answer.TheVariants.{Done}
-use Rattle.watch.specs.Histories.{History, Call, made_by, is_open_lem, ended, open_transaction, accesses}
+use Rattle.watch.specs.Histories.{History, Call, made_by, is_open, ended, open_transaction, accesses}
 use Rattle.watch.specs.States.{State}
 use Rattle.watch.specs.Steps.{Step, answer_in}
 use Rattle.watch.specs.Accounts.{Account}
@@ -24,18 +24,18 @@ module _ (overlapping : List ℕ → List ℕ → Bool) (conflicting : Mode → 
   in_bay : b < s.bays
   in_bay = (passed s (begin_of b) Done step.answer refl).1
 
-  idle : is_open_lem h b ≡ false
+  idle : is_open h b ≡ false
   idle =
-      begin_taken (is_open_lem h b) Done b s refl
+      begin_taken (is_open h b) Done b s refl
       ((passed s (begin_of b) Done step.answer refl).2 ∙ ap (λ x. answer_in x Begin b s) (was.bays_are_open_as_in_the_history b))
 
   -- A bay that is open now was open, unless its transaction made no access.
-  was_open : (k : ℕ) → (eqb k b || is_open_lem h k) ≡ true → Some (λ x. made_by x ≡ open_transaction h k) (accesses h) → is_open_lem h k ≡ true
+  was_open : (k : ℕ) → (eqb k b || is_open h k) ≡ true → Some (λ x. made_by x ≡ open_transaction h k) (accesses h) → is_open h k ≡ true
   was_open k o made =
       ⊎_elim
       (λ e. absurd (idle_unmade h b was.accesses_are_numbered idle (subst (λ j. Some (λ x. made_by x ≡ open_transaction h j) (accesses h)) (eqb-true k b e) made)))
       (λ e. e)
-      (or_cases (eqb k b) (is_open_lem h k) o)
+      (or_cases (eqb k b) (is_open h k) o)
 
   pub begin_kept : Account overlapping conflicting ((begin_of b, Done) ∷ h) t
   begin_kept =
@@ -73,12 +73,12 @@ module _ (overlapping : List ℕ → List ℕ → Bool) (conflicting : Mode → 
         only_bays_hold_marks = subst OnlyBays (sym step.marks) was.only_bays_hold_marks;
         open_bays_are_bays =
             λ k o. subst (λ n. k < n) (sym step.bays)
-            (⊎_elim (λ e. subst (λ j. j < s.bays) (sym (eqb-true k b e)) in_bay) (was.open_bays_are_bays k) (or_cases (eqb k b) (is_open_lem h k) o));
+            (⊎_elim (λ e. subst (λ j. j < s.bays) (sym (eqb-true k b e)) in_bay) (was.open_bays_are_bays k) (or_cases (eqb k b) (is_open h k) o));
         bays_are_few = few_kept overlapping conflicting h s t (begin_of b) Done was step in_bay;
         bays_have_records = room_kept overlapping conflicting h s t (begin_of b) Done was step in_bay;
         accesses_are_numbered =
             every_map _ _
-            (λ x. numbered_begun (eqb x.transaction.bay b) x.transaction.number (ended h x.transaction.bay) (is_open_lem h x.transaction.bay))
+            (λ x. numbered_begun (eqb x.transaction.bay b) x.transaction.number (ended h x.transaction.bay) (is_open h x.transaction.bay))
             (accesses h) was.accesses_are_numbered;
         committed_have_no_cycle = was.committed_have_no_cycle;
       }

@@ -17,7 +17,7 @@ use Rattle.marks.proofs.HoldsLaws.{hand_on_own, hand_on_inherited}
 use Rattle.marks.proofs.ApartLaws.{hand_on_apart, hand_on_bays}
 use Rattle.watch.specs.declared.answer.Verdict.TheVariants.{Clean}
 use Rattle.watch.specs.declared.answer.Answer.TheVariants.{Committed}
-use Rattle.watch.specs.Histories.{History, made_by, is_open_lem, ended, open_transaction, is_committed, accesses, committed_accesses, has_crossed, conflict}
+use Rattle.watch.specs.Histories.{History, made_by, is_open, ended, open_transaction, is_committed, accesses, committed_accesses, has_crossed, conflict}
 use Rattle.watch.specs.States.{State}
 use Rattle.watch.specs.Steps.{Step}
 use Rattle.watch.specs.Accounts.{Account, Path, MadeAccess, ReachesAccess}
@@ -37,7 +37,7 @@ module _ (overlapping : List ℕ → List ℕ → Bool) (conflicting : Mode → 
   below : b < 32
   below = commit_below overlapping conflicting h s t b Clean was step
 
-  is_open_lem : is_open_lem h b ≡ true
+  is_open_lem : is_open h b ≡ true
   is_open_lem = commit_open overlapping conflicting h s t b Clean was step
 
   same : (k : ℕ) → (k ≡ b → ⊥) → open_transaction after k ≡ open_transaction h k
@@ -61,11 +61,11 @@ module _ (overlapping : List ℕ → List ℕ → Bool) (conflicting : Mode → 
 
   -- Between other bays, a link stands exactly when it stood or two led through b.
   joined : has_crossed h ≡ false → (p q : ℕ) → p < 32 → q < 32 → ((s.links p q || (s.links p b && s.links b q)) ≡ true) ↔
-      ((is_open_lem h p ≡ true) × (is_open_lem h q ≡ true) × Path overlapping conflicting after (open_transaction h p) (open_transaction h q))
+      ((is_open h p ≡ true) × (is_open h q ≡ true) × Path overlapping conflicting after (open_transaction h p) (open_transaction h q))
   joined clean p q lp lq = (λ e. go (or_cases _ _ e), λ r. back r.0 r.1 ((path_after (open_transaction h p) (open_transaction h q)).0 r.2))
     where
       go : (s.links p q ≡ true) ⊎ ((s.links p b && s.links b q) ≡ true) →
-          (is_open_lem h p ≡ true) × (is_open_lem h q ≡ true) × Path overlapping conflicting after (open_transaction h p) (open_transaction h q)
+          (is_open h p ≡ true) × (is_open h q ≡ true) × Path overlapping conflicting after (open_transaction h p) (open_transaction h q)
       go (inl l) =
           let (op, oq, path) = (was.links_are_paths clean p q lp lq).0 l in
           (op, oq, (path_after (open_transaction h p) (open_transaction h q)).1 (inl path))
@@ -75,7 +75,7 @@ module _ (overlapping : List ℕ → List ℕ → Bool) (conflicting : Mode → 
           let (_, oq, second) = (was.links_are_paths clean b q below lq).0 out in
           (op, oq, (path_after (open_transaction h p) (open_transaction h q)).1 (inr (first, second)))
 
-      back : is_open_lem h p ≡ true → is_open_lem h q ≡ true → Path overlapping conflicting h (open_transaction h p) (open_transaction h q) ⊎
+      back : is_open h p ≡ true → is_open h q ≡ true → Path overlapping conflicting h (open_transaction h p) (open_transaction h q) ⊎
           (Path overlapping conflicting h (open_transaction h p) (open_transaction h b) × Path overlapping conflicting h (open_transaction h b) (open_transaction h q)) →
           (s.links p q || (s.links p b && s.links b q)) ≡ true
       back op oq (inl path) = or_left _ (s.links p b && s.links b q) ((was.links_are_paths clean p q lp lq).1 (op, oq, path))
@@ -86,20 +86,20 @@ module _ (overlapping : List ℕ → List ℕ → Bool) (conflicting : Mode → 
   -- In another bay, a mark is inherited exactly when it was, or when b held it and the bay linked to b.
   handed : has_crossed h ≡ false → (k : ℕ) → k < 32 → (fs : List ℕ) (m : Mode) →
       ((holds_inherited s.marks k fs m || (bit (bays_into s.links b) k && (holds_own s.marks b fs m || holds_inherited s.marks b fs m))) ≡ true) ↔
-      ((is_open_lem h k ≡ true) × ReachesAccess overlapping conflicting after fs m (open_transaction h k))
+      ((is_open h k ≡ true) × ReachesAccess overlapping conflicting after fs m (open_transaction h k))
   handed clean k low fs m = (λ e. go (or_cases _ _ e), λ r. back r.0 ((reaches_after fs m (open_transaction h k)).0 r.1))
     where
-      own : (holds_own s.marks b fs m ≡ true) ↔ ((is_open_lem h b ≡ true) × MadeAccess h fs m (open_transaction h b))
+      own : (holds_own s.marks b fs m ≡ true) ↔ ((is_open h b ≡ true) × MadeAccess h fs m (open_transaction h b))
       own = was.own_marks_are_accesses_of_the_open_transaction clean b below fs m
 
-      inherited : (j : ℕ) → j < 32 → (holds_inherited s.marks j fs m ≡ true) ↔ ((is_open_lem h j ≡ true) × ReachesAccess overlapping conflicting h fs m (open_transaction h j))
+      inherited : (j : ℕ) → j < 32 → (holds_inherited s.marks j fs m ≡ true) ↔ ((is_open h j ≡ true) × ReachesAccess overlapping conflicting h fs m (open_transaction h j))
       inherited j l = was.inherited_marks_are_accesses_that_paths_reach clean j l fs m
 
       taker : bit (bays_into s.links b) k ≡ s.links k b
       taker = bit_into s.links b k ∙ ap (λ x. x && s.links k b) (lt-ltb k 32 low)
 
       go : (holds_inherited s.marks k fs m ≡ true) ⊎ ((bit (bays_into s.links b) k && (holds_own s.marks b fs m || holds_inherited s.marks b fs m)) ≡ true) →
-          (is_open_lem h k ≡ true) × ReachesAccess overlapping conflicting after fs m (open_transaction h k)
+          (is_open h k ≡ true) × ReachesAccess overlapping conflicting after fs m (open_transaction h k)
       go (inl e) = let (o, r) = (inherited k low).0 e in (o, (reaches_after fs m (open_transaction h k)).1 (inl r))
       go (inr e) =
           let (into, held) = and_parts (bit (bays_into s.links b) k) (holds_own s.marks b fs m || holds_inherited s.marks b fs m) e in
@@ -114,7 +114,7 @@ module _ (overlapping : List ℕ → List ℕ → Bool) (conflicting : Mode → 
       held_by (inl made) = or_left _ (holds_inherited s.marks b fs m) (own.1 (is_open_lem, made))
       held_by (inr r) = or_right (holds_own s.marks b fs m) _ ((inherited b below).1 (is_open_lem, r))
 
-      back : is_open_lem h k ≡ true → ReachesAccess overlapping conflicting h fs m (open_transaction h k) ⊎ (Path overlapping conflicting h (open_transaction h k) (open_transaction h b) ×
+      back : is_open h k ≡ true → ReachesAccess overlapping conflicting h fs m (open_transaction h k) ⊎ (Path overlapping conflicting h (open_transaction h k) (open_transaction h b) ×
           (MadeAccess h fs m (open_transaction h b) ⊎ ReachesAccess overlapping conflicting h fs m (open_transaction h b))) →
           (holds_inherited s.marks k fs m || (bit (bays_into s.links b) k && (holds_own s.marks b fs m || holds_inherited s.marks b fs m))) ≡ true
       back o (inl r) = or_left _ (bit (bays_into s.links b) k && (holds_own s.marks b fs m || holds_inherited s.marks b fs m)) ((inherited k low).1 (o, r))
@@ -173,7 +173,7 @@ module _ (overlapping : List ℕ → List ℕ → Bool) (conflicting : Mode → 
         bays_have_records = room_kept overlapping conflicting h s t (commit_of b) (Committed Clean) was step in_bay;
         accesses_are_numbered =
             every_map _ _
-            (λ x. numbered_ended (eqb x.transaction.bay b) x.transaction.number (ended h x.transaction.bay) (is_open_lem h x.transaction.bay))
+            (λ x. numbered_ended (eqb x.transaction.bay b) x.transaction.number (ended h x.transaction.bay) (is_open h x.transaction.bay))
             (accesses h) was.accesses_are_numbered;
         committed_have_no_cycle = λ clean. no_cycle;
       }

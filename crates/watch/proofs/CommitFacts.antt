@@ -8,7 +8,7 @@ use Rattle.serial.specs.Changes.{Adds}
 use Rattle.serial.proofs.Effects.{cycle_adds}
 use Rattle.watch.specs.declared.answer.Verdict.{Verdict}
 use Rattle.watch.specs.declared.answer.Answer.TheVariants.{Committed}
-use Rattle.watch.specs.Histories.{History, Call, made_by, is_open_lem, ended, open_transaction, same_transaction, is_committed, accesses, committed_accesses, has_crossed, conflict}
+use Rattle.watch.specs.Histories.{History, Call, made_by, is_open, ended, open_transaction, same_transaction, is_committed, accesses, committed_accesses, has_crossed, conflict}
 use Rattle.watch.specs.States.{State}
 use Rattle.watch.specs.Steps.{Step, answer_in, verdict_on}
 use Rattle.watch.specs.Accounts.{Account}
@@ -46,12 +46,12 @@ module _ (overlapping : List ℕ → List ℕ → Bool) (conflicting : Mode → 
   pub commit_below : b < 32
   commit_below = let few = was.bays_are_few in let low = commit_in_bay in omega arith
 
-  answered : (is_open_lem h b ≡ true) × (Committed v ≡ Committed (verdict_on (s.links b b)))
+  answered : (is_open h b ≡ true) × (Committed v ≡ Committed (verdict_on (s.links b b)))
   answered =
-      commit_taken (is_open_lem h b) (Committed v) b s refl
+      commit_taken (is_open h b) (Committed v) b s refl
       ((passed s (commit_of b) (Committed v) step.answer refl).2 ∙ ap (λ x. answer_in x Commit b s) (was.bays_are_open_as_in_the_history b))
 
-  pub commit_open : is_open_lem h b ≡ true
+  pub commit_open : is_open h b ≡ true
   commit_open = answered.0
 
   pub commit_verdict : Committed v ≡ Committed (verdict_on (s.links b b))

@@ -8,7 +8,7 @@ use Rattle.serial.proofs.Serializing.{serializable_no_cycle}
 use Rattle.marks.specs.Apart.{told_apart, OnlyBays}
 use Rattle.watch.specs.declared.answer.Verdict.TheVariants.{Crossed}
 use Rattle.watch.specs.declared.answer.Answer.TheVariants.{Committed}
-use Rattle.watch.specs.Histories.{History, made_by, is_open_lem, ended, accesses, committed_accesses, conflict}
+use Rattle.watch.specs.Histories.{History, made_by, is_open, ended, accesses, committed_accesses, conflict}
 use Rattle.watch.specs.States.{State}
 use Rattle.watch.specs.Steps.{Step}
 use Rattle.watch.specs.Accounts.{Account, CommittedSerializable}
@@ -49,7 +49,7 @@ module _ (overlapping : List ℕ → List ℕ → Bool) (conflicting : Mode → 
         bays_have_records = room_kept overlapping conflicting h s t (commit_of b) (Committed Crossed) was step in_bay;
         accesses_are_numbered =
             every_map _ _
-            (λ x. numbered_ended (eqb x.transaction.bay b) x.transaction.number (ended h x.transaction.bay) (is_open_lem h x.transaction.bay))
+            (λ x. numbered_ended (eqb x.transaction.bay b) x.transaction.number (ended h x.transaction.bay) (is_open h x.transaction.bay))
             (accesses h) was.accesses_are_numbered;
         committed_have_no_cycle = λ clean. absurd (both_ways true clean refl);
       }

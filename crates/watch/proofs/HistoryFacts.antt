@@ -7,7 +7,7 @@ use Rattle.serial.specs.Lists.{Some, Every}
 use Rattle.serial.specs.Accesses.{Transaction}
 use Rattle.serial.proofs.ListFacts.{pair_earlier, pair_later, some_every}
 use Rattle.serial.proofs.PathFacts.{path_start, path_end}
-use Rattle.watch.specs.Histories.{History, Access, made_by, is_open_lem, is_commit, is_abort, effect, ended, open_transaction, same_transaction, is_committed, accesses}
+use Rattle.watch.specs.Histories.{History, Access, made_by, is_open, is_commit, is_abort, effect, ended, open_transaction, same_transaction, is_committed, accesses}
 use Rattle.watch.specs.Accounts.{Numbered, Path}
 
 pub transaction_equal : (t u : Transaction) → same_transaction t u ≡ true → t ≡ u
@@ -35,16 +35,16 @@ pub open_uncommitted : (h : History) (b : ℕ) → is_committed h (open_transact
 open_uncommitted h b e = let below = committed_ended h (open_transaction h b) e in omega arith
 
 -- Where a bay is idle, the next transaction there has made no access.
-pub idle_unmade : (h : History) (b : ℕ) → Every (Numbered h) (accesses h) → is_open_lem h b ≡ false →
+pub idle_unmade : (h : History) (b : ℕ) → Every (Numbered h) (accesses h) → is_open h b ≡ false →
     Some (λ x. made_by x ≡ open_transaction h b) (accesses h) → ⊥
 idle_unmade h b numbered idle made = at (some_every _ _ (accesses h) made numbered)
   where
     at : (x : Access) × (made_by x ≡ open_transaction h b) × Numbered h x → ⊥
-    at (x, e, n) = here (subst (λ t. (t.number < ended h t.bay) ⊎ ((t.number ≡ ended h t.bay) × (is_open_lem h t.bay ≡ true))) e n)
+    at (x, e, n) = here (subst (λ t. (t.number < ended h t.bay) ⊎ ((t.number ≡ ended h t.bay) × (is_open h t.bay ≡ true))) e n)
       where
-        here : (ended h b < ended h b) ⊎ ((ended h b ≡ ended h b) × (is_open_lem h b ≡ true)) → ⊥
+        here : (ended h b < ended h b) ⊎ ((ended h b ≡ ended h b) × (is_open h b ≡ true)) → ⊥
         here (inl l) = omega arith
-        here (inr p) = both_ways (is_open_lem h b) idle p.1
+        here (inr p) = both_ways (is_open h b) idle p.1
 
 module _ (overlapping : List ℕ → List ℕ → Bool) (conflicting : Mode → Mode → Bool) where
   -- Both ends of a path have made accesses.

@@ -6,7 +6,7 @@ use Rattle.items.specs.declared.mode.Mode.{Mode}
 use Rattle.watch.specs.declared.answer.Verdict.TheVariants.{Clean, Crossed}
 use Rattle.watch.specs.declared.answer.Answer.{Answer}
 use Rattle.watch.specs.declared.answer.Answer.TheVariants.{Done, Committed, Refused}
-use Rattle.watch.specs.Histories.{History, Call, Nothing, effect_of, is_open_lem}
+use Rattle.watch.specs.Histories.{History, Call, Nothing, effect_of, is_open}
 use Rattle.watch.specs.States.{State, LinksAgree}
 use Rattle.watch.specs.Steps.{Step, answer_in, links_after, MarksAfter, records_after, verdict_after}
 use Rattle.watch.specs.Accounts.{Account, RightAnswer}
@@ -42,7 +42,7 @@ module _ (overlapping : List ℕ → List ℕ → Bool) (conflicting : Mode → 
       Step overlapping conflicting s (record { bay = b; event = Commit }) Done t → ⊥
   never_done h s t b was step =
       done_uncommitted (s.links b b)
-      (commit_taken (is_open_lem h b) Done b s refl
+      (commit_taken (is_open h b) Done b s refl
       ((passed s (record { bay = b; event = Commit }) Done step.answer refl).2 ∙ ap (λ x. answer_in x Commit b s) (was.bays_are_open_as_in_the_history b))).1
 
   pub account_kept : (h : History) (s t : State) (c : Call) (a : Answer) → Account overlapping conflicting h s →

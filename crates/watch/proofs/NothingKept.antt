@@ -7,14 +7,14 @@ use Rattle.serial.specs.Paths.{PathIn, Cycle}
 use Rattle.serial.specs.Changes.{Made, Reaches, kept}
 use Rattle.marks.specs.Holding.{holds_inherited}
 use Rattle.watch.specs.declared.answer.Answer.{Answer}
-use Rattle.watch.specs.Histories.{History, Call, Effect, Nothing, effect_of, is_begin, is_commit, is_end, is_crossing, is_open_lem, ended, open_transaction, same_transaction, is_committed, Access, made_by, accesses_after, accesses, has_crossed, conflict}
+use Rattle.watch.specs.Histories.{History, Call, Effect, Nothing, effect_of, is_begin, is_commit, is_end, is_crossing, is_open, ended, open_transaction, same_transaction, is_committed, Access, made_by, accesses_after, accesses, has_crossed, conflict}
 use Rattle.watch.specs.States.{State}
 use Rattle.watch.specs.Accounts.{Account, RightAnswer, is_access_to}
 
 -- What is read from a history with one more call on bay b, by the effect of that call.
 module _ (h : History) (b : ℕ) where
   abbrev open_by : Effect → ℕ → Bool
-  open_by e k = (is_begin e && eqb k b) || (not (is_end e && eqb k b) && is_open_lem h k)
+  open_by e k = (is_begin e && eqb k b) || (not (is_end e && eqb k b) && is_open h k)
 
   abbrev ended_by : Effect → ℕ → ℕ
   ended_by e k = cond (is_end e && eqb k b) (suc (ended h k)) (ended h k)

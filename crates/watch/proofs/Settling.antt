@@ -12,7 +12,7 @@ use Rattle.marks.specs.Apart.{is_listed}
 use Rattle.marks.proofs.CountLaws.{count_within, vacant_when_fewer, held_decides}
 use Rattle.marks.proofs.ListedLaws.{listed_count}
 use Rattle.watch.specs.declared.answer.Answer.TheVariants.{Done}
-use Rattle.watch.specs.Histories.{History, Call, is_open_lem, has_crossed}
+use Rattle.watch.specs.Histories.{History, Call, is_open, has_crossed}
 use Rattle.watch.specs.States.{State, record_at}
 use Rattle.watch.specs.Steps.{refused_for, has_place, answer_in, answer_under, answer_to}
 use Rattle.watch.specs.Accounts.{Account, state_when, verdict_when}
@@ -36,7 +36,7 @@ module _ (overlapping : List ℕ → List ℕ → Bool) (conflicting : Mode → 
           (λ inherited. let (o, r) = (was.inherited_marks_are_accesses_that_paths_reach clean b low fs m).0 inherited in (b, o, inr r))
           (or_cases (holds_own s.marks b fs m) (holds_inherited s.marks b fs m) e)
 
-      below : (b : ℕ) → is_open_lem h b ≡ true → b < 32
+      below : (b : ℕ) → is_open h b ≡ true → b < 32
       below b o = let low = was.open_bays_are_bays b o in let few = was.bays_are_few in omega arith
 
       back : HeldInHistory overlapping conflicting h fs m → (b : ℕ) × (b < 32) × ((holds_own s.marks b fs m || holds_inherited s.marks b fs m) ≡ true)
@@ -85,7 +85,7 @@ module _ (overlapping : List ℕ → List ℕ → Bool) (conflicting : Mode → 
         back false is none full =
             let many = as_many in vacant_when_fewer s.marks ∙ le-ltb (held_count s.marks) (length s.marks) (omega arith)
 
-    refused-settled : (b : ℕ) → b < s.bays → is_open_lem h b ≡ true → (fs : List ℕ) (m : Mode) →
+    refused-settled : (b : ℕ) → b < s.bays → is_open h b ≡ true → (fs : List ℕ) (m : Mode) →
         (answer_to s (record { bay = b; event = Event.Access m fs }) ≡ refused_for NoVacantMark) ↔
         ((HeldInHistory overlapping conflicting h fs m → ⊥) × (length held ≡ length s.marks))
     refused-settled b low o fs m =

@@ -3,7 +3,7 @@ use Rattle.std.proofs.Common.{◌≡◌, ℕ, ◌<◌, ◌≤◌, min, Bool, tru
 use Rattle.std.proofs.lemmas.Bool.{eqb-true}
 use Rattle.items.specs.declared.mode.Mode.{Mode}
 use Rattle.watch.specs.declared.answer.Answer.{Answer}
-use Rattle.watch.specs.Histories.{History, Call, effect_of, is_open_lem, is_commit, is_abort, count}
+use Rattle.watch.specs.Histories.{History, Call, effect_of, is_open, is_commit, is_abort, count}
 use Rattle.watch.specs.States.{State, record_at}
 use Rattle.watch.specs.Steps.{Step}
 use Rattle.watch.specs.Accounts.{Account, state_when}
@@ -17,11 +17,11 @@ module _ (overlapping : List ℕ → List ℕ → Bool) (conflicting : Mode → 
   own_record : (k : ℕ) → eqb k c.bay ≡ true → record_at s.records c.bay ≡ record_at s.records k
   own_record k e = sym (ap (record_at s.records) (eqb-true k c.bay e))
 
-  pub states_kept : (k : ℕ) → (record_at t.records k).state ≡ state_when (is_open_lem ((c, a) ∷ h) k)
+  pub states_kept : (k : ℕ) → (record_at t.records k).state ≡ state_when (is_open ((c, a) ∷ h) k)
   states_kept k =
       ap (λ rs. (record_at rs k).state) step.records
       ∙ ap (λ r. r.state) (record_after_lem (effect_of c.event a) s.records c.bay k room)
-      ∙ state_after (effect_of c.event a) (eqb k c.bay) (record_at s.records c.bay) (record_at s.records k) (is_open_lem h k) (own_record k) (was.bays_are_open_as_in_the_history k)
+      ∙ state_after (effect_of c.event a) (eqb k c.bay) (record_at s.records c.bay) (record_at s.records k) (is_open h k) (own_record k) (was.bays_are_open_as_in_the_history k)
 
   pub commits_kept : (k : ℕ) → (record_at t.records k).commits ≡ min (count is_commit ((c, a) ∷ h) k) 4294967295
   commits_kept k =

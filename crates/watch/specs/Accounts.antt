@@ -17,7 +17,7 @@ use Rattle.watch.specs.declared.answer.Answer.{Answer}
 use Rattle.watch.specs.declared.answer.Answer.TheVariants.{Done, Committed, Refused}
 use Rattle.watch.specs.declared.bay_record.BayState.{BayState}
 use Rattle.watch.specs.declared.bay_record.BayState.TheVariants.{Idle, Open}
-use Rattle.watch.specs.Histories.{Call, History, Access, made_by, is_open_lem, is_commit, is_abort, count, ended, open_transaction, is_committed, accesses, committed_accesses, has_crossed, conflict}
+use Rattle.watch.specs.Histories.{Call, History, Access, made_by, is_open, is_commit, is_abort, count, ended, open_transaction, is_committed, accesses, committed_accesses, has_crossed, conflict}
 use Rattle.watch.specs.States.{State, record_at}
 
 -- The state of a bay, by whether it is open.
@@ -42,7 +42,7 @@ MadeAccess h fs m t = Made made_by (is_access_to fs m) (accesses h) t
 abbrev pub Numbered : History → Access → Type 0
 Numbered h x =
     (x.transaction.number < ended h x.transaction.bay) ⊎
-    ((x.transaction.number ≡ ended h x.transaction.bay) × (is_open_lem h x.transaction.bay ≡ true))
+    ((x.transaction.number ≡ ended h x.transaction.bay) × (is_open h x.transaction.bay ≡ true))
 
 module _ (overlapping : List ℕ → List ℕ → Bool) (conflicting : Mode → Mode → Bool) where
   -- A path of conflicts leads from one transaction to another, through committed ones alone.
@@ -76,7 +76,7 @@ module _ (overlapping : List ℕ → List ℕ → Bool) (conflicting : Mode → 
   -- The account of a history by a state.
   pub record Account (h : History) (s : State) : Type 0 where
     -- bays are open exactly as in the history
-    pub bays_are_open_as_in_the_history : (b : ℕ) → (record_at s.records b).state ≡ state_when (is_open_lem h b)
+    pub bays_are_open_as_in_the_history : (b : ℕ) → (record_at s.records b).state ≡ state_when (is_open h b)
     -- the counters of each bay are the numbers in the history, up to their limit
     pub commits_are_counted : (b : ℕ) → (record_at s.records b).commits ≡ min (count is_commit h b) 4294967295
     pub aborts_are_counted : (b : ℕ) → (record_at s.records b).aborts ≡ min (count is_abort h b) 4294967295
@@ -86,19 +86,19 @@ module _ (overlapping : List ℕ → List ℕ → Bool) (conflicting : Mode → 
     pub every_commit_is_right : EveryCommitIsRight h
     -- until a crossing, a bay links to a bay exactly when a path leads from the open transaction of the one to that of the other
     pub links_are_paths : has_crossed h ≡ false → (a b : ℕ) → a < 32 → b < 32 →
-        (s.links a b ≡ true) ↔ ((is_open_lem h a ≡ true) × (is_open_lem h b ≡ true) × Path h (open_transaction h a) (open_transaction h b))
+        (s.links a b ≡ true) ↔ ((is_open h a ≡ true) × (is_open h b ≡ true) × Path h (open_transaction h a) (open_transaction h b))
     -- until a crossing, a bay holds as own what its open transaction accessed
     pub own_marks_are_accesses_of_the_open_transaction : has_crossed h ≡ false → (b : ℕ) → b < 32 → (fs : List ℕ) (m : Mode) →
-        (holds_own s.marks b fs m ≡ true) ↔ ((is_open_lem h b ≡ true) × MadeAccess h fs m (open_transaction h b))
+        (holds_own s.marks b fs m ≡ true) ↔ ((is_open h b ≡ true) × MadeAccess h fs m (open_transaction h b))
     -- until a crossing, a bay holds as inherited what committed transactions accessed to which a path leads from its open one
     pub inherited_marks_are_accesses_that_paths_reach : has_crossed h ≡ false → (b : ℕ) → b < 32 → (fs : List ℕ) (m : Mode) →
-        (holds_inherited s.marks b fs m ≡ true) ↔ ((is_open_lem h b ≡ true) × ReachesAccess h fs m (open_transaction h b))
+        (holds_inherited s.marks b fs m ≡ true) ↔ ((is_open h b ≡ true) × ReachesAccess h fs m (open_transaction h b))
     -- no two held marks have the same fields and mode
     pub held_marks_are_told_apart : told_apart s.marks ≡ true
     -- only bays hold marks
     pub only_bays_hold_marks : OnlyBays s.marks
     -- only bays of the watch are open, there are at most 32, and each has its record
-    pub open_bays_are_bays : (b : ℕ) → is_open_lem h b ≡ true → b < s.bays
+    pub open_bays_are_bays : (b : ℕ) → is_open h b ≡ true → b < s.bays
     pub bays_are_few : s.bays ≤ 32
     pub bays_have_records : s.bays ≤ length s.records
     -- every access is of a transaction that has ended or of the open one

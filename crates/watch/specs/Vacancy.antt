@@ -4,7 +4,7 @@ use Rattle.items.specs.declared.entry.Event.{Event}
 use Rattle.items.specs.declared.mode.Mode.{Mode}
 use Rattle.items.specs.declared.refusal.Reason.TheVariants.{NoVacantMark}
 use Rattle.marks.specs.Apart.{is_listed, listed_once}
-use Rattle.watch.specs.Histories.{History, is_open_lem, open_transaction, has_crossed}
+use Rattle.watch.specs.Histories.{History, is_open, open_transaction, has_crossed}
 use Rattle.watch.specs.States.{State}
 use Rattle.watch.specs.Steps.{refused_for, answer_to}
 use Rattle.watch.specs.Accounts.{MadeAccess, ReachesAccess}
@@ -14,7 +14,7 @@ module _ (overlapping : List ℕ → List ℕ → Bool) (conflicting : Mode → 
   -- from it to a committed one that did.
   abbrev pub HeldInHistory : History → List ℕ → Mode → Type 0
   HeldInHistory h fs m =
-      (b : ℕ) × (is_open_lem h b ≡ true) ×
+      (b : ℕ) × (is_open h b ≡ true) ×
       (MadeAccess h fs m (open_transaction h b) ⊎ ReachesAccess overlapping conflicting h fs m (open_transaction h b))
 
   -- A list has all fields and modes that are held by the history, each once, and no others.
@@ -27,6 +27,6 @@ module _ (overlapping : List ℕ → List ℕ → Bool) (conflicting : Mode → 
   pub record VacancySettled (h : History) (s : State) : Type 0 where
     pub listed : has_crossed h ≡ false → (held : List (List ℕ × Mode)) × ListsHeld h held
     pub settled : has_crossed h ≡ false → (held : List (List ℕ × Mode)) → ListsHeld h held → (b : ℕ) → b < s.bays →
-        is_open_lem h b ≡ true → (fs : List ℕ) (m : Mode) →
+        is_open h b ≡ true → (fs : List ℕ) (m : Mode) →
         (answer_to s (record { bay = b; event = Event.Access m fs }) ≡ refused_for NoVacantMark) ↔
         ((HeldInHistory h fs m → ⊥) × (length held ≡ length s.marks))

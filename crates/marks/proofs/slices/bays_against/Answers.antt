@@ -17,8 +17,8 @@ loop-mark-preserved g c =
     let more = read_more (meant_mark g.I.Kind.fields) c.args.marks.now i c.mark-item.result c.loop-mark-test.true c.mark-item.is in
     elim c.if-overlaps.branch [
       | then-overlaps+then-conflicts w ↦
-          rw (w.bays-is, w.plus-all-bays.ensures)
-          (linked_more o conflicting c.args.bay fs c.args.mode (take i all) (take (i + 1) all) m more c.loop-mark.bays w.reached-from.result c.loop-mark.invariant w.reached-from.ensures (grind arith))
+          rw (w.bays-is, w.plus_all-bays.ensures)
+          (linked_more o conflicting c.args.bay fs c.args.mode (take i all) (take (i + 1) all) m more c.loop-mark.bays w.reached_from.result c.loop-mark.invariant w.reached_from.ensures (grind arith))
       | else-overlaps w ↦
           let against : is_against o conflicting fs c.args.mode m ≡ false = elim w.else-overlaps.branch [ else-overlaps-via-then-overlaps+else-conflicts v ↦ grind arith | else-overlaps-via-else-overlaps v ↦ grind arith ] in
           rw w.bays-is (linked_same o conflicting c.args.bay fs c.args.mode (take i all) (take (i + 1) all) m more c.loop-mark.bays c.loop-mark.invariant against)

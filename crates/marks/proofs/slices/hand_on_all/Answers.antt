@@ -6,7 +6,7 @@ use Rattle.marks.proofs.slices.hand_on_all.Goals as goal
 
 pub loop-mark-preserved : goal.loop-mark-preserved
 loop-mark-preserved g c =
-    written_more (meant_mark g.I.Kind.fields) (hands_on c.args.bay c.args.takers) c.args.marks.now c.loop-mark.marks c.loop-mark.mark-index c.mark-item.result c.handed-on.result c.loop-mark-test.true (omega arith) c.loop-mark.invariant c.handed-on.ensures
+    written_more (meant_mark g.I.Kind.fields) (hands_on c.args.bay c.args.takers) c.args.marks.now c.loop-mark.marks c.loop-mark.mark-index c.mark-item.result c.handed_on.result c.loop-mark-test.true (omega arith) c.loop-mark.invariant c.handed_on.ensures
 
 pub returns : goal.returns
 returns g c =

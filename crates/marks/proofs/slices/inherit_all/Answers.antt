@@ -5,7 +5,7 @@ use Rattle.marks.proofs.slices.inherit_all.Goals as goal
 
 pub loop-mark-preserved : goal.loop-mark-preserved
 loop-mark-preserved g c =
-    written_more (meant_mark g.I.Kind.fields) (inherits c.args.bay c.args.takers) c.args.marks.now c.loop-mark.marks c.loop-mark.mark-index c.mark-item.result c.inherited-by.result c.loop-mark-test.true (omega arith) c.loop-mark.invariant c.inherited-by.ensures
+    written_more (meant_mark g.I.Kind.fields) (inherits c.args.bay c.args.takers) c.args.marks.now c.loop-mark.marks c.loop-mark.mark-index c.mark-item.result c.inherited_by.result c.loop-mark-test.true (omega arith) c.loop-mark.invariant c.inherited_by.ensures
 
 pub returns : goal.returns
 returns g c =

@@ -6,24 +6,24 @@ use Rattle.marks.specs.Places.{any_mark}
 use Rattle.marks.proofs.SliceLaws.{read_all}
 use Rattle.marks.proofs.ReadLaws.{any_here, any_more}
 use Rattle.marks.proofs.slices.is_own.Goals as goal
-use Rattle.marks.proofs.slices.is_own.Goals.{else-is-of-via-then-is-of+else-has-bay, else-is-of-via-else-is-of}
+use Rattle.marks.proofs.slices.is_own.Goals.{else-is_of-via-then-is_of+else-has_bay, else-is_of-via-else-is_of}
 
 abbrev asked : ℕ → List ℕ → Mode → MarkMeant → Bool
 asked bay fs mode m = is_of fs mode m && bit m.own bay
 
-pub returns-then-has-bay : goal.returns-then-has-bay
-returns-then-has-bay g c =
+pub returns-then-has_bay : goal.returns-then-has_bay
+returns-then-has_bay g c =
     sym
     (any_here (meant_mark g.I.Kind.fields) c.args.marks.now c.loop-mark.mark-index c.mark-item.result c.loop-mark-test.true c.mark-item.is (asked c.args.bay (g.I.Kind.fields c.args.item.now) c.args.mode)
-    (let a = c.if-is-of.ensures in let b = c.if-has-bay.ensures in grind arith))
+    (let a = c.if-is_of.ensures in let b = c.if-has_bay.ensures in grind arith))
 
 pub loop-mark-preserved : goal.loop-mark-preserved
 loop-mark-preserved g c =
     let more = any_more (meant_mark g.I.Kind.fields) c.args.marks.now c.loop-mark.mark-index c.mark-item.result c.loop-mark-test.true c.mark-item.is (asked c.args.bay (g.I.Kind.fields c.args.item.now) c.args.mode) in
     let before = c.loop-mark.invariant in
-    elim c.else-is-of.branch [
-      | else-is-of-via-then-is-of+else-has-bay w ↦ grind arith
-      | else-is-of-via-else-is-of w ↦ grind arith
+    elim c.else-is_of.branch [
+      | else-is_of-via-then-is_of+else-has_bay w ↦ grind arith
+      | else-is_of-via-else-is_of w ↦ grind arith
     ]
 
 pub returns : goal.returns

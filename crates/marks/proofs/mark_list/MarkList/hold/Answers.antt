@@ -6,26 +6,26 @@ use Rattle.marks.proofs.AnyLaws.{first_passes, passes_within}
 use Rattle.marks.proofs.HoldLaws.{held_step, vacant_step}
 use Rattle.marks.proofs.mark_list.MarkList.hold.Goals as goal
 
-pub join-at-requires : goal.join-at-requires
-join-at-requires g c =
+pub join_at-requires : goal.join_at-requires
+join_at-requires g c =
     let ms = meant_list g.I.Kind.fields c.args.self.now in
     let test = is_held_of (g.I.Kind.fields c.args.item) c.args.mode in
     simp length-map at (passes_within test ms c.in-Held.place (first_passes test ms c.in-Held.place c.in-Held.ensures))
 
-pub take-at-requires : goal.take-at-requires
-take-at-requires g c =
+pub take_at-requires : goal.take_at-requires
+take_at-requires g c =
     simp length-map at (passes_within is_vacant (meant_list g.I.Kind.fields c.args.self.now) c.in-Vacant.place c.in-Vacant.ensures.1)
 
 pub returns-in-Held : goal.returns-in-Held
 returns-in-Held g c =
     record {
-      step = held_step c.args.bay (g.I.Kind.fields c.args.item) c.args.mode (meant_list g.I.Kind.fields c.args.self.now) (meant_marks g.I.Kind.fields c.join-at.new.marks) c.in-Held.place c.in-Held.ensures c.join-at.ensures;
+      step = held_step c.args.bay (g.I.Kind.fields c.args.item) c.args.mode (meant_list g.I.Kind.fields c.args.self.now) (meant_marks g.I.Kind.fields c.join_at.new.marks) c.in-Held.place c.in-Held.ensures c.join_at.ensures;
       stays = refl;
     }
 
 pub returns-in-Vacant : goal.returns-in-Vacant
 returns-in-Vacant g c =
     record {
-      step = vacant_step c.args.bay (g.I.Kind.fields c.args.item) c.args.mode (meant_list g.I.Kind.fields c.args.self.now) (meant_marks g.I.Kind.fields c.take-at.new.marks) c.in-Vacant.place c.in-Vacant.ensures.0 c.in-Vacant.ensures.1 c.take-at.ensures;
+      step = vacant_step c.args.bay (g.I.Kind.fields c.args.item) c.args.mode (meant_list g.I.Kind.fields c.args.self.now) (meant_marks g.I.Kind.fields c.take_at.new.marks) c.in-Vacant.place c.in-Vacant.ensures.0 c.in-Vacant.ensures.1 c.take_at.ensures;
       stays = refl;
     }
