@@ -1,6 +1,6 @@
 -- Opening a watch, and its refusal. Assumes nothing.
 use Rattle.std.specs.Prelude.{◌≡◌, ℕ, Bool, true, false, cond, ◌&&◌, List, [], length, Ok, Err, Result, nat_le}
-use Rattle.std.specs.Borrow.{Bor}
+use Rattle.std.specs.Borrow.{MutBor}
 use Rattle.items.specs.declared.mode.Mode.{Mode}
 use Rattle.boards.specs.Boards.{Links}
 use Rattle.marks.specs.declared.mark.Mark.{Mark}
@@ -32,6 +32,6 @@ AccountAtOpening overlapping conflicting linked fields (Ok w) = Account overlapp
 AccountAtOpening overlapping conflicting linked fields (Err u) = Unit {0}
 
 -- The memory that the answer to opening holds.
-abbrev pub memory_of : {I B : Type 0} → Result (Watch I B) (Unopened I) → Bor (List (Mark I))
+abbrev pub memory_of : {I B : Type 0} → Result (Watch I B) (Unopened I) → MutBor (List (Mark I))
 memory_of (Ok w) = w.marks.marks
 memory_of (Err u) = u.marks

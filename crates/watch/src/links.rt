@@ -8,7 +8,7 @@ use boards::{Board, has_bay};
 // Puts a link to a bay from each bay of a set.
 pub(crate) fn link_to<B: Board>(board: &mut B, froms: u32, to: u8)
     requires { to < 32 }
-    ensures { SameLinks (linked board.new) (with_links_to to froms (linked board.old)) }
+    ensures { SameLinks (B.Board.linked board.new) (with_links_to to froms (B.Board.linked board.old)) }
 {
     for from in 0..32u8 {
         if has_bay(froms, from) {
@@ -19,7 +19,7 @@ pub(crate) fn link_to<B: Board>(board: &mut B, froms: u32, to: u8)
 
 // Puts a link from each bay of one set to each bay of another.
 pub(crate) fn link_between<B: Board>(board: &mut B, froms: u32, tos: u32)
-    ensures { SameLinks (linked board.new) (with_links_between froms tos (linked board.old)) }
+    ensures { SameLinks (B.Board.linked board.new) (with_links_between froms tos (B.Board.linked board.old)) }
 {
     for to in 0..32u8 {
         if has_bay(tos, to) {

@@ -46,7 +46,7 @@ fn refused(reason: Reason) -> Answer
 // Whether a bay links to itself.
 fn links_itself<B: Board>(board: &B, bay: u8) -> bool
     requires { bay < 32 }
-    ensures { result ≡ linked board.now bay bay }
+    ensures { result ≡ B.Board.linked board.now bay bay }
 {
     match board.has(bay, bay) {
         Ok(linked) => linked,
@@ -57,7 +57,7 @@ fn links_itself<B: Board>(board: &B, bay: u8) -> bool
 // The bays that link to a bay.
 fn links_into<B: Board>(board: &B, bay: u8) -> u32
     requires { bay < 32 }
-    ensures { result ≡ bays_into (linked board.now) bay }
+    ensures { result ≡ bays_into (B.Board.linked board.now) bay }
 {
     match board.links_into(bay) {
         Ok(bays) => bays,
@@ -68,7 +68,7 @@ fn links_into<B: Board>(board: &B, bay: u8) -> u32
 // The bays that a bay links to.
 fn links_out<B: Board>(board: &B, bay: u8) -> u32
     requires { bay < 32 }
-    ensures { result ≡ bays_out_of (linked board.now) bay }
+    ensures { result ≡ bays_out_of (B.Board.linked board.now) bay }
 {
     match board.links_out(bay) {
         Ok(bays) => bays,

@@ -12,7 +12,7 @@ returns g c =
     let before = state c.args.self.now in
     let after = state c.step.new.self in
     let call = call_of c.args.bay Abort in
-    let step = step_told g.I.Kind.overlapping done_or done_of before after call c.step.result c.done-of.result c.done-of.ensures (abort_done before c.args.bay) c.step.ensures.step in
+    let step = step_told g.I.Kind.overlapping done_or done_of before after call c.step.result c.done_of.result c.done_of.ensures (abort_done before c.args.bay) c.step.ensures.step in
     record {
       step = step;
       account = step_extends g.I.Kind.overlapping g.met.I.Kind.overlap_is_mutual before after call _ step;

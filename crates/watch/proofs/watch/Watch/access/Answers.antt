@@ -14,7 +14,7 @@ returns g c =
     let before = state c.args.self.now in
     let after = state c.step.new.self in
     let call = call_of c.args.bay (Event.Access c.args.mode (g.I.Kind.fields c.args.item)) in
-    let step = step_told g.I.Kind.overlapping done_or done_of before after call c.step.result c.done-of.result c.done-of.ensures (access_done before c.args.bay c.args.mode (g.I.Kind.fields c.args.item)) c.step.ensures.step in
+    let step = step_told g.I.Kind.overlapping done_or done_of before after call c.step.result c.done_of.result c.done_of.ensures (access_done before c.args.bay c.args.mode (g.I.Kind.fields c.args.item)) c.step.ensures.step in
     record {
       step = step;
       account = step_extends g.I.Kind.overlapping g.met.I.Kind.overlap_is_mutual before after call _ step;
