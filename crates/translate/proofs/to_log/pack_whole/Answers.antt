@@ -60,8 +60,8 @@ returns g c =
     let tried : ◌≡◌ {A = Result ℕ Refusal} (Ok n) (meant (λ bits. length bits / 8) (packed_bits layout kind text (length (take (room - 0) (drop 0 trial))))) = c.in-ok-pack.ensures.answer in
     let same = packed_room layout kind text (length (take (room - 0) (drop 0 trial))) (length out) (trial_room trial room (length out) (length-replicate {A = ℕ} 65536 0) c.min-room.ensures) in
     let fits = packed_fits layout kind text (length out) in
-    let was = All-from_get_or (λ b. b < 256) out 0 (λ i _. ((goal.at.returns g c).In-ok-pack.type-inv.out i).fits) in
-    let small = All-from_get_or (λ b. b < 256) after 0 (λ i _. (c.type-inv.out i).fits) in
+    let was = All-from_get_or (λ b. b < 256) out 0 (λ i _. ((goal.at.returns g c).In-ok-pack.type_inv.out i).fits) in
+    let small = All-from_get_or (λ b. b < 256) after 0 (λ i _. (c.type_inv.out i).fits) in
     record {
       answer = c.pack-2.ensures.answer ∙ packed_count (length out) (packed_bits layout kind text (length out)) fits;
       memory = packed_bytes out after (packed_bits layout kind text (length out)) n fits was small (ap (meant (λ bits. length bits / 8)) (sym same) ∙ sym tried) c.pack-2.ensures.memory;
