@@ -19,8 +19,8 @@ digits_on c =
     let on : all_ascii_digits (drop i digits) ≡ (is_ascii_digit (get_or digits i 0) && all_ascii_digits (drop (i + 1) digits)) = at_drop_more all_ascii_digits digits i 0 c.loop-b-test.true in
     and_parts (is_ascii_digit (get_or digits i 0)) (all_ascii_digits (drop (i + 1) digits)) (sym on ∙ c.loop-b.invariant.1)
 
-pub overflow-sub-value : goal.overflow-sub-value
-overflow-sub-value c = (digit_range _ (digits_on (goal.at.overflow-sub-value c).In-loop-b).0).0
+pub overflow_sub-value : goal.overflow_sub-value
+overflow_sub-value c = (digit_range _ (digits_on (goal.at.overflow_sub-value c).In-loop-b).0).0
 
 pub loop-b-preserved : goal.loop-b-preserved
 loop-b-preserved c =

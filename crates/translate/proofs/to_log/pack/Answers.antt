@@ -27,31 +27,31 @@ module _ (g : given.Over) (c : In-Ok g) where
   same-room = c.header.auto.out
 
   -- the log was begun with the bays of the first line
-  begun-log : header_packs g.K.PackedKind.layout.code (length c.header.new.out) c.in-ok-reader.reader.at.bays ≡ Ok c.in-Ok.started.log
+  begun-log : header_packs g.K.PackedKind.layout.code (length c.header.new.out) c.in_ok-reader.reader.at.bays ≡ Ok c.in-Ok.started.log
   begun-log =
       let heads = header_packs g.K.PackedKind.layout.code in
       sym (c.in-Ok.ensures.answer ∙ ap (λ n. heads n c.bays.result) (sym same-room) ∙ ap (heads (length c.header.new.out)) c.bays.ensures)
 
   begun_place : c.in-Ok.started.log.place ≡ 16
-  begun_place = (header_packed g.K.PackedKind.layout.code (length c.header.new.out) c.in-ok-reader.reader.at.bays c.in-Ok.started.log begun-log).place
+  begun_place = (header_packed g.K.PackedKind.layout.code (length c.header.new.out) c.in_ok-reader.reader.at.bays c.in-Ok.started.log begun-log).place
 
   -- the whole packing, by how the pass goes on
-  outcome : (x : Result Packing Refusal) → packs g.K.PackedKind.layout (length c.header.new.out) (list_listing g.K.TextKind.wording c.args.text.now c.in-ok-reader.reader.at) c.in-Ok.started.log ≡ x → packed_bits g.K.PackedKind.layout g.K.TextKind.wording c.args.text.now (length c.args.out.now) ≡ meant (λ _. log_bits g.K.PackedKind.layout c.in-ok-reader.reader.at.bays (list_listing g.K.TextKind.wording c.args.text.now c.in-ok-reader.reader.at)) x
+  outcome : (x : Result Packing Refusal) → packs g.K.PackedKind.layout (length c.header.new.out) (list_listing g.K.TextKind.wording c.args.text.now c.in_ok-reader.reader.at) c.in-Ok.started.log ≡ x → packed_bits g.K.PackedKind.layout g.K.TextKind.wording c.args.text.now (length c.args.out.now) ≡ meant (λ _. log_bits g.K.PackedKind.layout c.in_ok-reader.reader.at.bays (list_listing g.K.TextKind.wording c.args.text.now c.in_ok-reader.reader.at)) x
   outcome x is =
       let layout = g.K.PackedKind.layout in
       let kind = g.K.TextKind.wording in
       let text = c.args.text.now in
       let room = length c.header.new.out in
-      let reader = c.in-ok-reader.reader.at in
+      let reader = c.in_ok-reader.reader.at in
       sym (ap (packed_bits layout kind text) same-room)
-      ∙ packed_as layout kind text room reader x (sym c.in-ok-reader.ensures) (ap (λ y. next y (packs layout room (list_listing kind text reader))) begun-log ∙ is)
+      ∙ packed_as layout kind text room reader x (sym c.in_ok-reader.ensures) (ap (λ y. next y (packs layout room (list_listing kind text reader))) begun-log ∙ is)
 
   -- what the header and the entries leave
-  header-and-others : (rest : List Bool) → pasted (bits_of c.header.new.out) c.in-Ok.started.log.place (padded c.in-Ok.started.log.place rest) ≡ pasted (bits_of c.args.out.now) 0 (padded 0 (header_bits g.K.PackedKind.layout.code c.in-ok-reader.reader.at.bays ++ rest))
+  header-and-others : (rest : List Bool) → pasted (bits_of c.header.new.out) c.in-Ok.started.log.place (padded c.in-Ok.started.log.place rest) ≡ pasted (bits_of c.args.out.now) 0 (padded 0 (header_bits g.K.PackedKind.layout.code c.in_ok-reader.reader.at.bays ++ rest))
   header-and-others rest =
       let d = bits_of c.args.out.now in
       let place = c.in-Ok.started.log.place in
-      let head = header_bits g.K.PackedKind.layout.code c.in-ok-reader.reader.at.bays in
+      let head = header_bits g.K.PackedKind.layout.code c.in_ok-reader.reader.at.bays in
       ap (λ m. pasted m place (padded place rest)) (c.in-Ok.ensures.memory ∙ ap (λ b. pasted d 0 (padded 0 (header_bits g.K.PackedKind.layout.code b))) c.bays.ensures)
       ∙ ap (λ n. pasted (pasted d 0 (padded 0 head)) n (padded n rest)) begun_place
       ∙ packed_pieces d 0 head rest
@@ -61,32 +61,32 @@ loop-entry-init g c =
     let layout = g.K.PackedKind.layout in
     let kind = g.K.TextKind.wording in
     let text = c.args.text.now in
-    let reader = c.in-ok-reader.reader.at in
+    let reader = c.in_ok-reader.reader.at in
     let log = c.in-Ok.started.log in
     let memory = bits_of c.header.new.out in (
-      packs_begin layout kind text (length c.header.new.out) reader log (begun_none _ text reader (sym c.in-ok-reader.ensures)) (begun-log g c),
+      packs_begin layout kind text (length c.header.new.out) reader log (begun_none _ text reader (sym c.in_ok-reader.ensures)) (begun-log g c),
       subst (ZeroBehind memory) (sym (begun_place g c)) (pasted_none memory 16),
       sym (ap (λ l. pasted memory log.place (padded log.place (listing_bits layout l))) (listing_by_skips (line_at kind reader.bays) text reader.place)),
     )
 
 moved : (g : given.Over) (c : In-Taken g) → MovedBy 1 (line_at g.K.TextKind.wording) c.args.text.now c.loop-entry.reader.at c.next.new.self.at (entry_meant g.K.Kind.fields c.in-Taken.entry)
 moved g c =
-    let told = c.in-ok-entry.ensures in
+    let told = c.in_ok-entry.ensures in
     let kind = g.K.TextKind.wording in
     step_taken_by 1 (line_at kind) (finds_lines kind) c.args.text.now c.loop-entry.reader.at _ refl _ _ _ (sym (ap (λ s. Ok (step_meant g.K.Kind.fields s)) c.in-Taken.is) ∙ told.answer) told.at
 
 pub loop-entry-smaller : goal.loop-entry-smaller
 loop-entry-smaller g c = let m = moved g (goal.at.loop-entry-smaller g c).In-Taken in omega (arith, m.further, m.left, length-drop c.loop-entry.reader.at.place c.args.text.now)
 
-pub returns-in-err-entry : goal.returns-in-err-entry
-returns-in-err-entry g c =
+pub returns-in_err-entry : goal.returns-in_err-entry
+returns-in_err-entry g c =
     let layout = g.K.PackedKind.layout in
     let kind = g.K.TextKind.wording in
     let text = c.args.text.now in
-    let h = (goal.at.returns-in-err-entry g c).In-Ok in
-    let e = c.in-err-entry.field-0.0 in
-    let p = err_from_is_err_and c.from-residual-in-err-entry.result c.from-residual-in-err-entry.ensures.1 in
-    let told = step_refused_by 1 (line_at kind) (finds_lines kind) text c.loop-entry.reader.at _ refl _ e c.in-err-entry.ensures.answer in
+    let h = (goal.at.returns-in_err-entry g c).In-Ok in
+    let e = c.in_err-entry.field-0.0 in
+    let p = err_from_is_err_and c.from_residual-in_err-entry.result c.from_residual-in_err-entry.ensures.1 in
+    let told = step_refused_by 1 (line_at kind) (finds_lines kind) text c.loop-entry.reader.at _ refl _ e c.in_err-entry.ensures.answer in
     let none = outcome g h (Err e) (packs_stopped layout kind text (length c.header.new.out) c.loop-entry.invariant.0 e told.0 told.1) in
     record {
       answer = p.1 ∙ ap Err p.2 ∙ sym (ap (meant (λ bits. length bits / 8)) none);
@@ -142,13 +142,13 @@ returns g c =
     let room = length c.header.new.out in
     let h = (goal.at.returns g c).In-Ok in
     let inv = c.loop-entry.invariant in
-    let reader = c.in-ok-reader.reader.at in
+    let reader = c.in_ok-reader.reader.at in
     let log = c.loop-entry.log.log in
     let d = bits_of c.loop-entry.out in
     let list = list_listing kind text reader in
     let head = header_bits layout.code reader.bays in
-    let told = c.in-ok-entry.ensures in
-    let ends = step_end_by 1 (line_at kind) (finds_lines kind) text c.loop-entry.reader.at _ refl _ (sym (ap (λ s. Ok (step_meant g.K.Kind.fields s)) c.in-default.is) ∙ told.answer) in
+    let told = c.in_ok-entry.ensures in
+    let ends = step_end_by 1 (line_at kind) (finds_lines kind) text c.loop-entry.reader.at _ refl _ (sym (ap (λ s. Ok (step_meant g.K.Kind.fields s)) c.in_default.is) ∙ told.answer) in
     let whole = packs_end layout kind text room inv.0 ends in
     let done = outcome g h (Ok log) whole in
     let long : log.place ≡ length (head ++ listing_bits layout list) = omega (arith, packs_place layout room list c.in-Ok.started.log log whole, begun_place g h, length-append head (listing_bits layout list)) in

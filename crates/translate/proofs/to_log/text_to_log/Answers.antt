@@ -21,32 +21,32 @@ by_kind layout kind text out after r which is answer memory again =
       comes_back = subst (ListComesBack text) (sym is) (list_back layout kind text (meant bytes_of (packed_bits layout kind text (length out))) which again);
     }
 
-pub returns-then-code-kind-code : goal.returns-then-code-kind-code
-returns-then-code-kind-code c =
+pub returns-then-code-kind_code : goal.returns-then-code-kind_code
+returns-then-code-kind_code c =
     let text = c.args.text.now in
     let out = c.args.out.now in
-    let told = c.pack-whole.ensures in
-    let is = ap (λ x. meant bytes_of (log_by_kind text (length out) x)) (sym c.in-ok-code.ensures) ∙ ap (meant bytes_of) (cond-true _ _ _ (eq-eqb _ _ (c.if-code-kind-code.true ∙ c.kind-code.ensures))) in
+    let told = c.pack_whole.ensures in
+    let is = ap (λ x. meant bytes_of (log_by_kind text (length out) x)) (sym c.in_ok-code.ensures) ∙ ap (meant bytes_of) (cond-true _ _ _ (eq-eqb _ _ (c.if-code-kind_code.true ∙ c.kind_code.ensures))) in
     by_kind article_layout article_wording text out _ _ (λ bytes room bays. refl) is told.answer told.memory (told.again (record { code = refl; word = refl }))
 
-pub returns-then-code-kind-code-2 : goal.returns-then-code-kind-code-2
-returns-then-code-kind-code-2 c =
+pub returns-then-code-kind_code-2 : goal.returns-then-code-kind_code-2
+returns-then-code-kind_code-2 c =
     let text = c.args.text.now in
     let out = c.args.out.now in
-    let told = c.pack-whole-then-code-kind-code-2.ensures in
+    let told = c.pack_whole-then-code-kind_code-2.ensures in
     let is =
-    ap (λ x. meant bytes_of (log_by_kind text (length out) x)) (sym c.in-ok-code.ensures)
-    ∙ ap (meant bytes_of) (cond-false _ _ _ (ne_eqb _ _ (λ e. c.if-code-kind-code.false (e ∙ sym c.kind-code.ensures))))
-    ∙ ap (meant bytes_of) (cond-true _ _ _ (eq-eqb _ _ (c.if-code-kind-code-2.true ∙ c.kind-code-else-code-kind-code.ensures))) in
+    ap (λ x. meant bytes_of (log_by_kind text (length out) x)) (sym c.in_ok-code.ensures)
+    ∙ ap (meant bytes_of) (cond-false _ _ _ (ne_eqb _ _ (λ e. c.if-code-kind_code.false (e ∙ sym c.kind_code.ensures))))
+    ∙ ap (meant bytes_of) (cond-true _ _ _ (eq-eqb _ _ (c.if-code-kind_code-2.true ∙ c.kind_code-else-code-kind_code.ensures))) in
     by_kind span_layout span_wording text out _ _ (λ bytes room bays. refl) is told.answer told.memory (told.again (record { code = refl; word = refl }))
 
-pub returns-else-code-kind-code-2 : goal.returns-else-code-kind-code-2
-returns-else-code-kind-code-2 c =
+pub returns-else-code-kind_code-2 : goal.returns-else-code-kind_code-2
+returns-else-code-kind_code-2 c =
     let text = c.args.text.now in
     let out = c.args.out.now in
-    let told = c.pack-whole-else-code-kind-code-2.ensures in
+    let told = c.pack_whole-else-code-kind_code-2.ensures in
     let is =
-    ap (λ x. meant bytes_of (log_by_kind text (length out) x)) (sym c.in-ok-code.ensures)
-    ∙ ap (meant bytes_of) (cond-false _ _ _ (ne_eqb _ _ (λ e. c.if-code-kind-code.false (e ∙ sym c.kind-code.ensures))))
-    ∙ ap (meant bytes_of) (cond-false _ _ _ (ne_eqb _ _ (λ e. c.if-code-kind-code-2.false (e ∙ sym c.kind-code-else-code-kind-code.ensures)))) in
+    ap (λ x. meant bytes_of (log_by_kind text (length out) x)) (sym c.in_ok-code.ensures)
+    ∙ ap (meant bytes_of) (cond-false _ _ _ (ne_eqb _ _ (λ e. c.if-code-kind_code.false (e ∙ sym c.kind_code.ensures))))
+    ∙ ap (meant bytes_of) (cond-false _ _ _ (ne_eqb _ _ (λ e. c.if-code-kind_code-2.false (e ∙ sym c.kind_code-else-code-kind_code.ensures)))) in
     by_kind field_set_layout field_set_wording text out _ _ (λ bytes room bays. refl) is told.answer told.memory (told.again (record { code = refl; word = refl }))

@@ -20,32 +20,32 @@ by_kind layout kind bytes out after r which is answer memory again =
       comes_back = subst (LogComesBack bytes) (sym is) (log_back layout kind bytes (translated layout kind bytes (length out)) which again);
     }
 
-pub returns-then-code-kind-code : goal.returns-then-code-kind-code
-returns-then-code-kind-code c =
+pub returns-then-code-kind_code : goal.returns-then-code-kind_code
+returns-then-code-kind_code c =
     let bytes = c.args.bytes.now in
     let out = c.args.out.now in
     let told = c.translate.ensures in
-    let is = ap (text_by_kind bytes (length out)) (sym c.in-ok-code.ensures) ∙ cond-true _ _ _ (eq-eqb _ _ (c.if-code-kind-code.true ∙ c.kind-code.ensures)) in
+    let is = ap (text_by_kind bytes (length out)) (sym c.in_ok-code.ensures) ∙ cond-true _ _ _ (eq-eqb _ _ (c.if-code-kind_code.true ∙ c.kind_code.ensures)) in
     by_kind article_layout article_wording bytes out _ _ (λ text room. refl) is told.answer told.memory (told.again (record { code = refl; word = refl }))
 
-pub returns-then-code-kind-code-2 : goal.returns-then-code-kind-code-2
-returns-then-code-kind-code-2 c =
+pub returns-then-code-kind_code-2 : goal.returns-then-code-kind_code-2
+returns-then-code-kind_code-2 c =
     let bytes = c.args.bytes.now in
     let out = c.args.out.now in
-    let told = c.translate-then-code-kind-code-2.ensures in
+    let told = c.translate-then-code-kind_code-2.ensures in
     let is =
-    ap (text_by_kind bytes (length out)) (sym c.in-ok-code.ensures)
-    ∙ cond-false _ _ _ (ne_eqb _ _ (λ e. c.if-code-kind-code.false (e ∙ sym c.kind-code.ensures)))
-    ∙ cond-true _ _ _ (eq-eqb _ _ (c.if-code-kind-code-2.true ∙ c.kind-code-else-code-kind-code.ensures)) in
+    ap (text_by_kind bytes (length out)) (sym c.in_ok-code.ensures)
+    ∙ cond-false _ _ _ (ne_eqb _ _ (λ e. c.if-code-kind_code.false (e ∙ sym c.kind_code.ensures)))
+    ∙ cond-true _ _ _ (eq-eqb _ _ (c.if-code-kind_code-2.true ∙ c.kind_code-else-code-kind_code.ensures)) in
     by_kind span_layout span_wording bytes out _ _ (λ text room. refl) is told.answer told.memory (told.again (record { code = refl; word = refl }))
 
-pub returns-else-code-kind-code-2 : goal.returns-else-code-kind-code-2
-returns-else-code-kind-code-2 c =
+pub returns-else-code-kind_code-2 : goal.returns-else-code-kind_code-2
+returns-else-code-kind_code-2 c =
     let bytes = c.args.bytes.now in
     let out = c.args.out.now in
-    let told = c.translate-else-code-kind-code-2.ensures in
+    let told = c.translate-else-code-kind_code-2.ensures in
     let is =
-    ap (text_by_kind bytes (length out)) (sym c.in-ok-code.ensures)
-    ∙ cond-false _ _ _ (ne_eqb _ _ (λ e. c.if-code-kind-code.false (e ∙ sym c.kind-code.ensures)))
-    ∙ cond-false _ _ _ (ne_eqb _ _ (λ e. c.if-code-kind-code-2.false (e ∙ sym c.kind-code-else-code-kind-code.ensures))) in
+    ap (text_by_kind bytes (length out)) (sym c.in_ok-code.ensures)
+    ∙ cond-false _ _ _ (ne_eqb _ _ (λ e. c.if-code-kind_code.false (e ∙ sym c.kind_code.ensures)))
+    ∙ cond-false _ _ _ (ne_eqb _ _ (λ e. c.if-code-kind_code-2.false (e ∙ sym c.kind_code-else-code-kind_code.ensures))) in
     by_kind field_set_layout field_set_wording bytes out _ _ (λ text room. refl) is told.answer told.memory (told.again (record { code = refl; word = refl }))

@@ -11,14 +11,14 @@ laws g =
     let list = g.met.K.TextKind in
     record { narrow = log.narrow.0; tell = log.bits_are_an_item; shown = list.packed_is_shown; packed = list.shown_is_packed; others = list.others_are_refused }
 
-pub returns-in-err-pass-over : goal.returns-in-err-pass-over
-returns-in-err-pass-over g c =
+pub returns-in_err-pass_over : goal.returns-in_err-pass_over
+returns-in_err-pass_over g c =
     let bytes = c.args.bytes.now in
-    let small = All-from_get_or (λ b. b < 256) bytes 0 (λ i _. (c.type-inv.bytes i).fits) in
+    let small = All-from_get_or (λ b. b < 256) bytes 0 (λ i _. (c.type_inv.bytes i).fits) in
     record { answer = search rules; memory = search rules; again = λ known. packs_again _ _ (laws g) known bytes (length c.args.out.now) small _ refl }
 
 pub returns : goal.returns
 returns g c =
     let bytes = c.args.bytes.now in
-    let small = All-from_get_or (λ b. b < 256) bytes 0 (λ i _. (c.type-inv.bytes i).fits) in
+    let small = All-from_get_or (λ b. b < 256) bytes 0 (λ i _. (c.type_inv.bytes i).fits) in
     record { answer = search rules; memory = search rules; again = λ known. packs_again _ _ (laws g) known bytes (length c.args.out.now) small _ refl }
