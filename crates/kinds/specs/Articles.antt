@@ -1,5 +1,5 @@
 -- Articles: a number from 0 to 16,383. Assumes nothing.
-use Rattle.std.specs.Prelude.{ℕ, Bool, true, false, cond, List, [], ◌∷◌, Some, None, codes, Option, nat_lt}
+use Rattle.std.specs.Prelude.{ℕ, Bool, false, List, [], ◌∷◌, codes, Option, nat_lt}
 use Rattle.items.specs.Kinds.{Layout, Wording, ranged}
 
 -- the number is below 16,384

@@ -1,5 +1,5 @@
 -- Sets of fields of a record: a record number below 4,096 and a set of six fields, not empty. Assumes nothing.
-use Rattle.std.specs.Prelude.{ℕ, ◌+◌, ◌*◌, ◌/◌, ◌%◌, Bool, not, ◌&&◌, List, [], ◌∷◌, Some, None, codes, Option, ◌==◌, bit_and, nat_le, nat_lt}
+use Rattle.std.specs.Prelude.{ℕ, ◌+◌, ◌*◌, ◌/◌, ◌%◌, Bool, not, ◌&&◌, List, [], ◌∷◌, codes, Option, ◌==◌, bit_and, nat_le, nat_lt}
 use Rattle.items.specs.Kinds.{Layout, Wording, ranged, of_pair, of_pairs}
 
 -- a set is a number in which field k counts 2^k

@@ -1,5 +1,5 @@
 -- Spans of bytes: a start and a length of 1 to 64, start plus length at most 1,048,576. Assumes nothing.
-use Rattle.std.specs.Prelude.{ℕ, ◌+◌, ◌-◌, ◌*◌, ◌/◌, ◌%◌, min, max, Bool, ◌&&◌, List, [], ◌∷◌, Some, None, codes, Option, nat_le, nat_lt}
+use Rattle.std.specs.Prelude.{ℕ, ◌+◌, ◌-◌, ◌*◌, ◌/◌, ◌%◌, min, max, Bool, ◌&&◌, List, [], ◌∷◌, codes, Option, nat_le, nat_lt}
 use Rattle.items.specs.Kinds.{Layout, Wording, ranged, of_pair, of_pairs}
 
 abbrev pub is_span : List ℕ → Bool

@@ -1,5 +1,5 @@
 -- A loop that reads marks: what is known of the first i of them, and of the next. Assumes nothing.
-use Rattle.std.proofs.Common.{◌≡◌, ℕ, ◌+◌, ◌<◌, Bool, true, false, cond, ◌||◌, List, map, length, get_or, take, ap, ◌∙◌, arith}
+use Rattle.std.proofs.Common.{◌≡◌, ℕ, ◌+◌, ◌<◌, Bool, true, false, cond, ◌||◌, List, map, length, get_or, take, ap, ◌∙◌}
 use Rattle.std.proofs.lemmas.List.{length-map}
 use Rattle.marks.specs.Marks.{MarkMeant, is_vacant}
 use Rattle.marks.specs.Places.{any_mark, is_first, passes_at}

@@ -1,4 +1,4 @@
-use Rattle.std.proofs.Common.{◌≡◌, ◌+◌, ◌≤◌, ◌++◌, length, sym, ap, ◌∙◌, arith}
+use Rattle.std.proofs.Common.{◌+◌, ◌≤◌, ◌++◌, length, sym, ap, ◌∙◌, arith}
 use Rattle.items.specs.Lines.{spaced, ending, pasted}
 use Rattle.items.proofs.Fitting.{length_line, fits_room}
 use Rattle.items.proofs.Pasting.{pasted_pieces}

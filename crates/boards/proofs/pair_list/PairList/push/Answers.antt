@@ -14,7 +14,7 @@ bounds-self-self c = (one_more c.args.self.now c.args.from c.args.to (search rul
 pub invariant_of-self : goal.invariant_of-self
 invariant_of-self c =
     let more = one_more c.args.self.now c.args.from c.args.to (search rules) c.requires.both c.requires.new in
-    record { within = omega arith; bays = more.bays; once = more.once; }
+    record { within = omega arith; bays = more.bays; once = more.once }
 
 pub returns : goal.returns
 returns c = (one_more c.args.self.now c.args.from c.args.to (search rules) c.requires.both c.requires.new).links
