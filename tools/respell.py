@@ -13,7 +13,8 @@ import re
 import sys
 
 WORD = r"[^\s(){}\[\],;.:\"⌜⌝⟦⟧«»@λ∷⊢|]+"
-DECLARED = re.compile(r"^(\s*)((?:abbrev |unfoldable |pub |data |record )*)(" + WORD + r")((?: [^:]*)?) : (.*)$")
+DECLARED = re.compile(r"^(\s*)((?:abbrev |unfoldable |pub |data |record )*)(" + WORD + r")((?: [^:=]*)?) : (.*)$")
+IMPORTED = re.compile(r"(?m)^(?:ghost )?use ([^\s{]+)\.\{([^}]*)\}")
 ANSWERS = ("Answers.antt", "Invariants.antt", "Proof.antt", "Choices.antt")
 
 
@@ -56,13 +57,24 @@ def declared(root):
     return {n: f for n, f in found.items() if re.fullmatch(r"[A-Za-z][A-Za-z0-9_'\-]*", n)}
 
 
+def library_words(root):
+    """The names that files import from outside the repository."""
+    own = {f"Rattle.{c}" for c in os.listdir(os.path.join(root, "crates"))}
+    words = set()
+    for path in files(root, ".antt"):
+        for module, names in IMPORTED.findall(text_of(path)):
+            if ".".join(module.split(".")[:2]) not in own:
+                words |= {name.split(" as ")[-1].strip() for name in names.split(",")}
+    return words
+
+
 def table(root):
     """The new name of each name that changes, and those of lemmas that had the new spelling already."""
     found = declared(root)
-    taken, names, lemmas = {}, {}, {}
+    taken, names, lemmas = {word: None for word in library_words(root)}, {}, {}
     for name in sorted(found, key=lambda n: (found[n][0], "-" in n, n)):
         new = respelled(name)
-        if taken.get(new, name) != name:
+        if taken.get(new, name) != name and (taken[new] or new != name):
             new += "_lem"
         taken[new] = name
         if new != name:
@@ -86,19 +98,15 @@ def main():
             print(old, new)
         return
     word = re.compile(r"(?<![A-Za-z0-9_'\-])[A-Za-z][A-Za-z0-9_'\-]*")
-    inner = re.compile(r"(?<![A-Za-z0-9_'\-.])[A-Za-z][A-Za-z0-9_'\-]*")
     for path in files(root, ".antt"):
-        rewrite(path, names, word)
-        # A lemma that was spelled like this already is renamed where it is declared or imported.
+        # A lemma that was spelled like a definition's new name is renamed where it is declared or imported.
         text = text_of(path)
         here = {n: m for n, m in lemmas.items() if path in found[n][1] or re.search(r"(?m)^use .*\.\{[^}]*\b" + n + r"\b", text)}
-        if here:
-            rewrite(path, here, inner)
+        rewrite(path, {**names, **here}, word)
     # In the Rust code no name has a capital inside a word that begins with a small letter, and no name has a dash.
-    camel = {n: m for n, m in names.items() if "-" not in n and n[:1].islower()}
-    plain = re.compile(r"(?<![A-Za-z0-9_'])[A-Za-z][A-Za-z0-9_']*")
+    clear = {n: m for n, m in names.items() if n[:1].islower() and n != respelled(n)}
     for path in files(root, ".rt", ".edit"):
-        rewrite(path, camel, plain)
+        rewrite(path, clear, word)
 
 
 main()
