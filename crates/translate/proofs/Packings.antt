@@ -19,7 +19,7 @@ use Rattle.packed.proofs.NumberBits.{bytes_count, bytes_over}
 use Rattle.packed.proofs.WriteTrips.{entry_packed, header_packed}
 use Rattle.packed.proofs.Walks.{Sized, Finds, listing_by_skips, listing_from, MovedBy}
 use Rattle.text.specs.Whole.{list_listing}
-use Rattle.translate.specs.Packs.{listing_bits, log_bits, packs, packed_behind, packed_bits, PackedInto}
+use Rattle.translate.specs.Packs.{entries_bits as listing_bits, log_bits, packs, packed_behind, packed_bits, PackedInto}
 use Rattle.text.specs.Reads.{EntryLine, FirstLine, line_size, line_at, entry_read, counted, entry_line_of, first_line_of, on_bay, bay_below, event_read, few_bays, begun_with, begun_by, list_begun}
 use Rattle.translate.specs.Translation.{next, translated_memory}
 use Rattle.text.specs.Words.{before}

@@ -11,7 +11,7 @@ use Rattle.packed.specs.Entries.{step_meant}
 use Rattle.packed.specs.Packing.{header_bits, entry_bits, padding_bits, padded, header_packs, entry_packs}
 use Rattle.packed.proofs.Walks.{listing_by_skips, listing_from, MovedBy, step_taken_by, step_end_by, step_refused_by}
 use Rattle.text.specs.Whole.{list_listing}
-use Rattle.translate.specs.Packs.{listing_bits, log_bits, packs, packed_bits, PackedInto}
+use Rattle.translate.specs.Packs.{entries_bits as listing_bits, log_bits, packs, packed_bits, PackedInto}
 use Rattle.text.specs.Reads.{line_at, list_begun}
 use Rattle.translate.specs.Translation.{next}
 use Rattle.packed.proofs.WriteTrips.{entry_packed, header_packed}
