@@ -1,23 +1,21 @@
 -- From a log to a list and back, and from a list to a log and back. Assumes nothing.
-use Rattle.std.proofs.Common.{◌≡◌, ℕ, ◌+◌, ◌*◌, ◌/◌, ◌<◌, ◌≤◌, true, eqb, List, [], ◌∷◌, ◌++◌, length, drop, Some, Ok, Err, Result, sym, refl, ap, ◌∙◌, subst, append-nil, arith}
+use Rattle.std.proofs.Common.{◌≡◌, ℕ, ◌+◌, ◌/◌, ◌<◌, ◌≤◌, eqb, List, [], ◌++◌, length, Ok, Err, Result, sym, refl, ap, ◌∙◌, append-nil, arith}
 use Rattle.std.specs.List.{AllByRecursion as All}
 use Rattle.std.proofs.lemmas.List.{length-append, drop_at}
 use Rattle.items.specs.Kinds.{Layout, Wording, meant}
 use Rattle.items.specs.declared.entry.Entry.{Entry}
 use Rattle.items.specs.declared.refusal.Refusal.{Refusal}
 use Rattle.packed.specs.declared.header.Header.{Header}
-use Rattle.packed.specs.declared.packing.Packing.{Packing}
 use Rattle.packed.specs.declared.reading.Reading.{Reading}
 use Rattle.packed.specs.Bits.{bytes_of}
 use Rattle.packed.specs.Headers.{any_kind, one_kind, header_of}
-use Rattle.packed.specs.Logs.{Listing, finished, listed, entries_listed, entries_of, listing_by, Contents, with_bays, log_listing, behind_header, log_of}
+use Rattle.packed.specs.Logs.{finished, entries_listed, entries_of, listing_by, Contents, with_bays, log_listing, behind_header, log_of}
 use Rattle.packed.specs.Packing.{header_bits, header_packs, bit_room}
 use Rattle.packed.specs.Trips.{entries_bits, unpadded_bits, log_bytes}
 use Rattle.packed.proofs.HeaderTrips.{ok_err}
-use Rattle.packed.proofs.LogTrips.{ReadWhole, log_again, log_bytes_long, log_tells, log_reads}
+use Rattle.packed.proofs.LogTrips.{log_again, log_bytes_long, log_tells, log_reads}
 use Rattle.packed.proofs.Walks.{listing_by_skips}
 use Rattle.packed.proofs.WriteTrips.{header_packed}
-use Rattle.text.specs.declared.writing.Writing.{Writing}
 use Rattle.text.specs.Lists.{first_line, entry_lines, normal_form}
 use Rattle.text.specs.Reads.{line_at, list_begun, first_line_of, code_told}
 use Rattle.text.specs.Trips.{ValidEntry}

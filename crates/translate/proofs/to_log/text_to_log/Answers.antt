@@ -1,5 +1,6 @@
-use Rattle.std.proofs.Common.{◌≡◌, ℕ, List, length, Ok, Result, sym, refl, ap, ◌∙◌, subst}
+use Rattle.std.proofs.Common.{◌≡◌, ℕ, List, length, Ok, Err, Result, sym, refl, ap, ◌∙◌, subst}
 use Rattle.std.proofs.lemmas.Bool.{cond-true, cond-false, eq-eqb, ne_eqb}
+use Rattle.std.proofs.lemmas.Result.{err_from_is_err_and}
 use Rattle.items.specs.Kinds.{Layout, Wording, meant}
 use Rattle.items.specs.declared.refusal.Refusal.{Refusal}
 use Rattle.kinds.specs.Articles.{article_layout, article_wording}
@@ -27,6 +28,19 @@ by_kind layout kind text out after r which is answer memory again =
 -- the log by the code that was read
 by_code : (text : List ℕ) (room : ℕ) (x : Result ℕ Refusal) → x ≡ code_told (first_line_of (before 10 text)) → log_of_text text room ≡ meant bytes_of (log_by_code text room x)
 by_code text room x is = ap (meant bytes_of) (kind_by_code text room (first_line_of (before 10 text)) ∙ sym (ap (log_by_code text room) is))
+
+pub returns-in_err-code : goal.returns-in_err-code
+returns-in_err-code c =
+    let text = c.args.text.now in
+    let out = c.args.out.now in
+    let e = c.in_err-code.field-0.0 in
+    let p = err_from_is_err_and c.from_residual.result c.from_residual.ensures.1 in
+    let is : log_of_text text (length out) ≡ Err e = by_code text (length out) (Err e) c.in_err-code.ensures in
+    record {
+      answer = p.1 ∙ ap Err p.2 ∙ sym (ap (meant length) is);
+      memory = sym (ap (translated_memory out) is);
+      comes_back = subst (ListComesBack text) (sym is) tt;
+    }
 
 pub returns-then-code-kind_code : goal.returns-then-code-kind_code
 returns-then-code-kind_code c =
