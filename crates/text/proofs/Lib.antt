@@ -3,6 +3,7 @@ pub mod DecimalTrips
 pub mod MarkTrips
 pub mod WordTrips
 pub mod LineTrips
+pub mod LetterTable
 pub mod EntryTrips
 pub mod EntryBacks
 pub mod LineBacks

@@ -1,5 +1,5 @@
 -- What a log can hold and what a list can show are the same. Assumes nothing.
-use Rattle.std.proofs.Common.{◌≡◌, ℕ, ◌<◌, ◌≤◌, List, [], ◌∷◌, Some}
+use Rattle.std.proofs.Common.{◌≡◌, ℕ, ◌<◌, List, [], ◌∷◌, Some}
 use Rattle.std.specs.List.{AllByRecursion as All}
 use Rattle.items.specs.Kinds.{Layout, Wording, Showable}
 use Rattle.items.specs.declared.entry.Entry.{Entry}

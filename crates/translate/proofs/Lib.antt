@@ -1,3 +1,4 @@
+mod Listed
 mod Memory
 mod Passes
 mod Packings

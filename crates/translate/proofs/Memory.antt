@@ -1,7 +1,7 @@
 -- What a pass leaves in memory. Assumes nothing.
-use Rattle.std.proofs.Common.{◌≡◌, ℕ, ◌+◌, List, [], ◌++◌, length, Ok, Err, Result, sym, refl, ap, ◌∙◌, subst}
+use Rattle.std.proofs.Common.{◌≡◌, ℕ, ◌+◌, List, [], ◌++◌, length, Ok, Err, Result, sym, refl, subst}
 use Rattle.items.specs.declared.refusal.Refusal.{Refusal}
-use Rattle.items.proofs.Pasting.{length_pasted, pasted_none, pasted_pieces}
+use Rattle.items.proofs.Pasting.{pasted_none, pasted_pieces}
 use Rattle.text.specs.declared.writing.Pass.{Pass}
 use Rattle.text.specs.declared.writing.Pass.TheVariants.{Measure, Write}
 use Rattle.text.specs.Writing.{passed}

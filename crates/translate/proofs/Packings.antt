@@ -1,26 +1,23 @@
 -- A pass over a list that packs its log: what each step keeps, and what the end says. Assumes nothing.
-use Rattle.std.proofs.Common.{◌≡◌, ℕ, ◌+◌, ◌-◌, ◌*◌, ◌/◌, ◌%◌, ◌<◌, ◌≤◌, Bool, true, false, cond, ◌&&◌, eqb, ltb, leb, List, [], ◌∷◌, ◌++◌, length, drop, Some, None, Ok, Err, Option, Result, sym, refl, ap, ◌∙◌, append_assoc, add-zero, zero-add, arith, length-append}
+use Rattle.std.proofs.Common.{◌≡◌, ℕ, ◌+◌, ◌-◌, ◌*◌, ◌/◌, ◌%◌, ◌<◌, ◌≤◌, Bool, true, false, cond, eqb, List, ◌++◌, length, Some, None, Ok, Err, Option, Result, sym, refl, ap, ◌∙◌, append_assoc, add-zero, arith, length-append}
 use Rattle.std.specs.List.{AllByRecursion as All}
-use Rattle.std.proofs.lemmas.Bool.{cond_both, eqb-false}
 use Rattle.items.specs.Kinds.{Layout, Wording, meant}
 use Rattle.items.specs.Lines.{pasted}
 use Rattle.items.specs.declared.entry.Entry.{Entry}
-use Rattle.items.specs.declared.entry.Event.{Event}
 use Rattle.items.specs.declared.refusal.Refusal.{Refusal}
-use Rattle.items.proofs.Pasting.{pasted_none, pasted_pieces, pasted_again}
+use Rattle.items.proofs.Pasting.{pasted_pieces, pasted_again}
 use Rattle.packed.specs.declared.packing.Packing.{Packing}
 use Rattle.packed.specs.declared.reading.Reading.{Reading}
-use Rattle.packed.specs.Entries.{Found, ended, entered}
-use Rattle.packed.specs.Logs.{Listing, finished, stopped, listed, listing_by}
+use Rattle.packed.specs.Logs.{Listing, finished, stopped, listed}
 use Rattle.packed.specs.Packing.{header_bits, entry_bits, padding_bits, padded, header_packs, entry_packs, bit_room}
 use Rattle.packed.specs.Bits.{bytes_of}
 use Rattle.packed.proofs.BitLists.{length_number_bits}
 use Rattle.packed.proofs.NumberBits.{bytes_count, bytes_over}
 use Rattle.packed.proofs.WriteTrips.{entry_packed, header_packed}
-use Rattle.packed.proofs.Walks.{Sized, Finds, listing_by_skips, listing_from, MovedBy}
+use Rattle.packed.proofs.Walks.{listing_by_skips, listing_from, MovedBy}
 use Rattle.text.specs.Whole.{list_listing}
-use Rattle.translate.specs.Packs.{listing_bits, log_bits, packs, packed_behind, packed_bits, PackedInto}
-use Rattle.text.specs.Reads.{EntryLine, FirstLine, line_size, line_at, entry_read, counted, entry_line_of, first_line_of, on_bay, bay_below, event_read, few_bays, begun_with, begun_by, list_begun}
+use Rattle.translate.specs.Packs.{entries_bits as listing_bits, log_bits, packs, packed_behind, packed_bits, PackedInto}
+use Rattle.text.specs.Reads.{FirstLine, line_size, line_at, first_line_of, few_bays, begun_with, begun_by, list_begun}
 use Rattle.translate.specs.Translation.{next, translated_memory}
 use Rattle.text.specs.Words.{before}
 

@@ -1,11 +1,10 @@
 -- A pass over a log that writes its list: what each step keeps, and what the end says. Assumes nothing.
-use Rattle.std.proofs.Common.{◌≡◌, ℕ, ◌+◌, ◌<◌, ◌≤◌, Bool, true, false, cond, ◌&&◌, eqb, ltb, leb, List, [], ◌∷◌, ◌++◌, length, Some, None, Ok, Err, Option, Result, sym, refl, ap, ◌∙◌, subst, add-zero, arith, length-append}
+use Rattle.std.proofs.Common.{◌≡◌, ℕ, ◌+◌, ◌≤◌, Bool, true, false, cond, ◌&&◌, eqb, ltb, leb, List, length, Some, None, Ok, Err, Option, Result, sym, refl, ap, ◌∙◌, add-zero, arith, length-append}
 use Rattle.items.specs.Kinds.{Layout, Wording, meant}
 use Rattle.items.specs.Lines.{fitted}
 use Rattle.items.specs.declared.entry.Entry.{Entry}
 use Rattle.items.specs.declared.refusal.Refusal.{Refusal}
 use Rattle.items.proofs.Fitting.{fits_room}
-use Rattle.packed.specs.declared.header.Header.{Header}
 use Rattle.packed.specs.declared.reading.Reading.{Reading}
 use Rattle.packed.specs.Headers.{one_kind, header_of}
 use Rattle.packed.specs.Logs.{Listing, finished, stopped, listed, log_listing}

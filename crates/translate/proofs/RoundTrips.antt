@@ -1,23 +1,21 @@
 -- From a log to a list and back, and from a list to a log and back. Assumes nothing.
-use Rattle.std.proofs.Common.{◌≡◌, ℕ, ◌+◌, ◌*◌, ◌/◌, ◌<◌, ◌≤◌, true, eqb, List, [], ◌∷◌, ◌++◌, length, drop, Some, Ok, Err, Result, sym, refl, ap, ◌∙◌, subst, append-nil, arith}
+use Rattle.std.proofs.Common.{◌≡◌, ℕ, ◌+◌, ◌/◌, ◌<◌, ◌≤◌, eqb, List, [], ◌++◌, length, Ok, Err, Result, sym, refl, ap, ◌∙◌, append-nil, arith}
 use Rattle.std.specs.List.{AllByRecursion as All}
 use Rattle.std.proofs.lemmas.List.{length-append, drop_at}
 use Rattle.items.specs.Kinds.{Layout, Wording, meant}
 use Rattle.items.specs.declared.entry.Entry.{Entry}
 use Rattle.items.specs.declared.refusal.Refusal.{Refusal}
 use Rattle.packed.specs.declared.header.Header.{Header}
-use Rattle.packed.specs.declared.packing.Packing.{Packing}
 use Rattle.packed.specs.declared.reading.Reading.{Reading}
 use Rattle.packed.specs.Bits.{bytes_of}
 use Rattle.packed.specs.Headers.{any_kind, one_kind, header_of}
-use Rattle.packed.specs.Logs.{Listing, finished, listed, entries_listed, entries_of, listing_by, Contents, with_bays, log_listing, behind_header, log_of}
+use Rattle.packed.specs.Logs.{finished, entries_listed, entries_of, listing_by, Contents, with_bays, log_listing, behind_header, log_of}
 use Rattle.packed.specs.Packing.{header_bits, header_packs, bit_room}
 use Rattle.packed.specs.Trips.{entries_bits, unpadded_bits, log_bytes}
 use Rattle.packed.proofs.HeaderTrips.{ok_err}
-use Rattle.packed.proofs.LogTrips.{ReadWhole, log_again, log_bytes_long, log_tells, log_reads}
+use Rattle.packed.proofs.LogTrips.{log_again, log_bytes_long, log_tells, log_reads}
 use Rattle.packed.proofs.Walks.{listing_by_skips}
 use Rattle.packed.proofs.WriteTrips.{header_packed}
-use Rattle.text.specs.declared.writing.Writing.{Writing}
 use Rattle.text.specs.Lists.{first_line, entry_lines, normal_form}
 use Rattle.text.specs.Reads.{line_at, list_begun, first_line_of, code_told}
 use Rattle.text.specs.Trips.{ValidEntry}
@@ -28,10 +26,11 @@ use Rattle.text.proofs.LineWalks.{listed_before, listed_entries}
 use Rattle.text.proofs.ListBacks.{contents_written_back, contents_valid}
 use Rattle.text.proofs.ListTrips.{lines_listed}
 use Rattle.text.specs.Whole.{list_listing, behind_first, list_of}
-use Rattle.translate.specs.Packs.{log_bits, packs, packed_behind, packed_bits, log_by_kind}
+use Rattle.translate.specs.Packs.{log_bits, packs, packed_behind, packed_bits}
 use Rattle.translate.specs.Translation.{list_text, next, writes, plans, translated_behind, translated, text_by_kind}
 use Rattle.translate.specs.Trips.{Known, PacksAgain, ListsAgain, LogComesBack, ListComesBack}
 use Rattle.translate.proofs.KindFacts.{Laws, holdable_valid, valid_holdable, holdable_among}
+use Rattle.translate.proofs.Listed.{bits_are, text_is, log_is, log_by_code, kind_by_code}
 use Rattle.translate.proofs.Packings.{packs_place, packs_within}
 use Rattle.translate.proofs.WholeFits.{packed_listed, written_listed, listed_before_lem, packs_fit, header_fits, writes_fit, begin_fits}
 
@@ -70,7 +69,7 @@ module _ (layout : Layout) (kind : Wording) (laws : Laws layout kind) (known : K
         bays = bays;
         entries = entries_listed list;
         reads = ap (behind_header layout bytes) is ∙ ap (with_bays bays) whole;
-        text_is = told.2;
+        text_is = sym (text_is kind bays list) ∙ told.2;
       }
 
   -- the list of a log, packed again, is the log
@@ -99,6 +98,7 @@ module _ (layout : Layout) (kind : Wording) (laws : Laws layout kind) (known : K
       ∙ ap (λ l. meant bytes_of (meant (λ _. log_bits layout bays l) (next (header_packs layout.code room' bays) (packs layout room' l)))) list
       ∙ ap (λ x. meant bytes_of (meant (λ _. log_bits layout bays (listed_before es finished)) (next x (packs layout room' (listed_before es finished))))) head
       ∙ ap (λ x. meant bytes_of (meant (λ _. log_bits layout bays (listed_before es finished)) x)) rest.1
+      ∙ ap (λ b. Ok (bytes_of b)) (log_is layout bays (listed_before es finished))
       ∙ ap (λ l. Ok (log_bytes layout bays l)) (listed_before_lem es)
       ∙ ap Ok r.again
 
@@ -134,10 +134,10 @@ module _ (layout : Layout) (kind : Wording) (laws : Laws layout kind) (known : K
         entries = es;
         some = valid.0;
         few = valid.1;
-        short = omega (arith, length-append (header_bits layout.code bays) (entries_bits layout es), head.place);
+        short = omega (arith, length-append (header_bits layout.code bays) (entries_bits layout es), ap length (bits_are layout list), head.place);
         valid = valid.2;
         text_is = contents_written_back kind layout.code text c laws.others known.word read;
-        bytes_are = ap bytes_of told.2 ∙ bits.2;
+        bytes_are = ap bytes_of (sym (log_is layout bays list) ∙ told.2) ∙ bits.2;
       }
 
   log_behind : (bytes : List ℕ) (room : ℕ) (c : Contents) (x : Result Header Refusal) → 1 ≤ c.bays → c.bays ≤ 32 → All (λ e. e.bay < c.bays) c.entries → length (first_line kind c.bays ++ entry_lines kind c.entries) ≤ room → behind_header layout bytes x ≡ Ok c → translated_behind layout kind bytes room x ≡ Ok (first_line kind c.bays ++ entry_lines kind c.entries)
@@ -154,6 +154,7 @@ module _ (layout : Layout) (kind : Wording) (laws : Laws layout kind) (known : K
       ∙ ap (λ b. meant (λ _. list_text kind b listing) (plans kind layout.code room b listing)) told.1
       ∙ ap (λ x. meant (λ _. list_text kind c.bays listing) (next x (writes kind layout.code room listing))) first
       ∙ ap (meant (λ _. list_text kind c.bays listing)) rest.1
+      ∙ ap Ok (text_is kind c.bays listing)
       ∙ ap (λ l. Ok (first_line kind c.bays ++ entry_lines kind l)) (listed_before_lem es)
 
   -- the log of a list, turned into a list again, is the list in its normal form
@@ -189,10 +190,11 @@ module _ (layout : Layout) (kind : Wording) (laws : Laws layout kind) (known : K
       }
 
 -- with the kind that a list tells, that goes for every list
-pub log_back : (layout : Layout) (kind : Wording) (bytes : List ℕ) (x : Result (List ℕ) Refusal) → ((text : List ℕ) (room : ℕ) → log_by_kind text room (Ok layout.code) ≡ packed_bits layout kind text room) → PacksAgain layout kind bytes x → LogComesBack bytes x
+pub log_back : (layout : Layout) (kind : Wording) (bytes : List ℕ) (x : Result (List ℕ) Refusal) → ((text : List ℕ) (room : ℕ) → log_by_code text room (Ok layout.code) ≡ packed_bits layout kind text room) → PacksAgain layout kind bytes x → LogComesBack bytes x
 log_back layout kind bytes (Err r) which h = tt
 log_back layout kind bytes (Ok text) which h = λ room fits.
-    ap (λ c. meant bytes_of (log_by_kind text room c)) h.told ∙ ap (meant bytes_of) (which text room) ∙ h.back room fits
+    ap (meant bytes_of) (kind_by_code text room (first_line_of (before 10 text)))
+    ∙ ap (λ c. meant bytes_of (log_by_code text room c)) h.told ∙ ap (meant bytes_of) (which text room) ∙ h.back room fits
 
 -- with the kind that a log tells, that goes for every log
 pub list_back : (layout : Layout) (kind : Wording) (text : List ℕ) (x : Result (List ℕ) Refusal) → ((bytes : List ℕ) (room bays : ℕ) → text_by_kind bytes room (Ok (record { code = layout.code; bays = bays })) ≡ translated layout kind bytes room) → ListsAgain layout kind text x → ListComesBack text x

@@ -1,29 +1,32 @@
 -- From a text list to a packed log. Assumes nothing.
-use Rattle.std.specs.Prelude.{◌≡◌, ℕ, ◌+◌, Bool, cond, List, Ok, Err, Result, ◌==◌, nat_eq}
+use Rattle.std.specs.Prelude.{◌≡◌, ℕ, ◌+◌, Bool, cond, List, [], ◌++◌, Some, None, Ok, Err, Option, Result, ◌==◌, nat_eq}
 use Rattle.kinds.specs.Articles.{article_layout, article_wording}
 use Rattle.kinds.specs.FieldSets.{field_set_layout, field_set_wording}
 use Rattle.items.specs.Kinds.{Layout, Wording, meant}
 use Rattle.items.specs.Lines.{pasted}
 use Rattle.kinds.specs.Spans.{span_layout, span_wording}
 use Rattle.items.specs.declared.refusal.Refusal.{Refusal}
+use Rattle.items.specs.declared.refusal.Reason.TheVariants.{MalformedLine}
 use Rattle.packed.specs.declared.packing.Packing.{Packing}
 use Rattle.packed.specs.declared.reading.Reading.{Reading}
 use Rattle.packed.specs.Bits.{bits_of, bytes_of}
-use Rattle.packed.specs.Logs.{Listing, finished, stopped, listed, entries_listed}
-use Rattle.packed.specs.Packing.{padded, header_packs, entry_packs}
-use Rattle.packed.specs.Trips.{entries_bits, unpadded_bits}
-use Rattle.text.specs.Reads.{first_line_of, code_told, list_begun}
-use Rattle.text.specs.Whole.{list_listing}
+use Rattle.packed.specs.Logs.{Listing, finished, stopped, listed}
+use Rattle.packed.specs.Packing.{header_bits, entry_bits, padded, header_packs, entry_packs}
+use Rattle.text.specs.Reads.{FirstLine, first_line_of, list_begun}
 use Rattle.translate.specs.Translation.{next}
+use Rattle.text.specs.Whole.{list_listing}
 use Rattle.text.specs.Words.{before}
+use Rattle.text.specs.Writing.{text_refusal}
 
 -- the bits of the entries that are listed
-abbrev pub listing_bits : Layout → Listing → List Bool
-listing_bits kind entries = entries_bits kind (entries_listed entries)
+abbrev pub entries_bits : Layout → Listing → List Bool
+entries_bits kind finished = []
+entries_bits kind (stopped r l) = []
+entries_bits kind (listed e rest) = entry_bits kind e ++ entries_bits kind rest
 
 -- the bits of a whole log: its header, its entries, and zeros up to the end of a byte
 abbrev pub log_bits : Layout → ℕ → Listing → List Bool
-log_bits kind bays entries = padded 0 (unpadded_bits kind bays (entries_listed entries))
+log_bits kind bays entries = padded 0 (header_bits kind.code bays ++ entries_bits kind entries)
 
 -- packing entry after entry into so much room: the log then, or the first refusal of the list or of the log
 abbrev pub packs : Layout → ℕ → Listing → Packing → Result Packing Refusal
@@ -42,15 +45,15 @@ abbrev pub packed_bits : Layout → Wording → List ℕ → ℕ → Result (Lis
 packed_bits layout kind text room = packed_behind layout kind text room (list_begun (λ c. nat_eq c layout.code) text)
 
 -- a list as a log, by the kind that its first line tells
-abbrev pub log_by_kind : List ℕ → ℕ → Result ℕ Refusal → Result (List Bool) Refusal
-log_by_kind text room (Err r) = Err r
-log_by_kind text room (Ok code) =
-    cond (code == 1) (packed_bits article_layout article_wording text room)
-    (cond (code == 2) (packed_bits span_layout span_wording text room) (packed_bits field_set_layout field_set_wording text room))
+abbrev pub log_by_kind : List ℕ → ℕ → Option FirstLine → Result (List Bool) Refusal
+log_by_kind text room None = Err (text_refusal MalformedLine 0)
+log_by_kind text room (Some l) =
+    cond (l.code == 1) (packed_bits article_layout article_wording text room)
+    (cond (l.code == 2) (packed_bits span_layout span_wording text room) (packed_bits field_set_layout field_set_wording text room))
 
 -- a list of any of the three kinds as the bytes of a log, in so much room, or the first refusal
 abbrev pub log_of_text : List ℕ → ℕ → Result (List ℕ) Refusal
-log_of_text text room = meant bytes_of (log_by_kind text room (code_told (first_line_of (before 10 text))))
+log_of_text text room = meant bytes_of (log_by_kind text room (first_line_of (before 10 text)))
 
 -- the bits of memory after one pass packed a log into it; a pass that was refused may have written there, so it is tried
 -- first on memory that nobody keeps

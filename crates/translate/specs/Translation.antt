@@ -1,5 +1,5 @@
 -- From a packed log to a text list. Assumes nothing.
-use Rattle.std.specs.Prelude.{◌≡◌, ℕ, ◌+◌, cond, List, ◌++◌, Ok, Err, Result, ◌==◌}
+use Rattle.std.specs.Prelude.{◌≡◌, ℕ, ◌+◌, cond, List, [], ◌++◌, Ok, Err, Result, ◌==◌}
 use Rattle.kinds.specs.Articles.{article_layout, article_wording}
 use Rattle.kinds.specs.FieldSets.{field_set_layout, field_set_wording}
 use Rattle.items.specs.Kinds.{Layout, Wording, meant}
@@ -8,16 +8,18 @@ use Rattle.kinds.specs.Spans.{span_layout, span_wording}
 use Rattle.items.specs.declared.refusal.Refusal.{Refusal}
 use Rattle.packed.specs.declared.header.Header.{Header}
 use Rattle.packed.specs.Headers.{any_kind, one_kind, header_of}
-use Rattle.packed.specs.Logs.{Listing, finished, stopped, listed, entries_listed, log_listing}
+use Rattle.packed.specs.Logs.{Listing, finished, stopped, listed, log_listing}
 use Rattle.text.specs.declared.writing.Pass.{Pass}
 use Rattle.text.specs.declared.writing.Pass.TheVariants.{Measure, Write}
 use Rattle.text.specs.declared.writing.Writing.{Writing}
-use Rattle.text.specs.Lists.{first_line, entry_lines}
+use Rattle.text.specs.Lists.{first_line, entry_line}
 use Rattle.text.specs.Writing.{begins, adds}
 
 -- the lines of the entries that are listed
 abbrev pub lines_of : Wording → Listing → List ℕ
-lines_of kind entries = entry_lines kind (entries_listed entries)
+lines_of kind finished = []
+lines_of kind (stopped r l) = []
+lines_of kind (listed e rest) = entry_line kind e ++ lines_of kind rest
 
 -- a whole list: its first line and a line for each entry
 abbrev pub list_text : Wording → ℕ → Listing → List ℕ

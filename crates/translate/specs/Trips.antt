@@ -1,5 +1,5 @@
 -- Nothing is lost on the way from a log to a list and back, nor on the way from a list to a log and back. Assumes nothing.
-use Rattle.std.specs.Prelude.{◌≡◌, ℕ, ◌<◌, ◌≤◌, true, List, length, Some, Ok, Err, Result}
+use Rattle.std.specs.Prelude.{◌≡◌, ℕ, ◌≤◌, true, List, length, Some, Ok, Err, Result}
 use Rattle.items.specs.Kinds.{Layout, Wording, meant}
 use Rattle.items.specs.declared.refusal.Refusal.{Refusal}
 use Rattle.packed.specs.Bits.{bytes_of}

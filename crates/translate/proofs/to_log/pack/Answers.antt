@@ -1,22 +1,22 @@
-use Rattle.std.proofs.Common.{◌≡◌, ℕ, ◌+◌, ◌/◌, Bool, eqb, List, [], ◌++◌, length, drop, Ok, Err, Result, sym, refl, ap, ◌∙◌, subst, add-zero, arith, length-append, length-drop}
+use Rattle.std.proofs.Common.{◌≡◌, ◌+◌, ◌/◌, Bool, List, ◌++◌, length, Ok, Err, Result, sym, refl, ap, ◌∙◌, subst, add-zero, arith, length-append, length-drop}
 use Rattle.std.proofs.lemmas.Result.{err_from_is_err_and}
 use Rattle.items.specs.Entries.{entry_meant}
 use Rattle.items.specs.Kinds.{meant}
 use Rattle.items.specs.Lines.{pasted}
 use Rattle.items.specs.declared.refusal.Refusal.{Refusal}
-use Rattle.items.proofs.Pasting.{pasted_none, pasted_pieces}
+use Rattle.items.proofs.Pasting.{pasted_none}
 use Rattle.packed.specs.declared.packing.Packing.{Packing}
 use Rattle.packed.specs.Bits.{bits_of}
 use Rattle.packed.specs.Entries.{step_meant}
 use Rattle.packed.specs.Packing.{header_bits, entry_bits, padding_bits, padded, header_packs, entry_packs}
 use Rattle.packed.proofs.Walks.{listing_by_skips, listing_from, MovedBy, step_taken_by, step_end_by, step_refused_by}
 use Rattle.text.specs.Whole.{list_listing}
-use Rattle.translate.specs.Packs.{listing_bits, log_bits, packs, packed_bits, PackedInto}
-use Rattle.text.specs.Reads.{line_at, list_begun}
+use Rattle.translate.specs.Packs.{entries_bits as listing_bits, log_bits, packs, packed_bits, PackedInto}
+use Rattle.text.specs.Reads.{line_at}
 use Rattle.translate.specs.Translation.{next}
 use Rattle.packed.proofs.WriteTrips.{entry_packed, header_packed}
 use Rattle.text.proofs.LineWalks.{finds_lines}
-use Rattle.translate.proofs.Packings.{begun_none, Packs, packs_begin, packs_on, packs_refused, packs_stopped, packs_end, packed_as, packs_place, ZeroBehind, packed_pieces, packed_zero, byte_count}
+use Rattle.translate.proofs.Packings.{begun_none, packs_begin, packs_on, packs_refused, packs_stopped, packs_end, packed_as, packs_place, ZeroBehind, packed_pieces, packed_zero, byte_count}
 use Rattle.translate.proofs.to_log.pack.Given as given
 use Rattle.translate.proofs.to_log.pack.Goals as goal
 use Rattle.translate.proofs.to_log.pack.Goals.{In-Ok, In-Taken}

@@ -4,7 +4,7 @@ use Rattle.packed.specs.Bits.{bits_of}
 use Rattle.packed.specs.Packing.{padded}
 use Rattle.packed.proofs.Walks.{listing_from}
 use Rattle.text.specs.Whole.{list_listing}
-use Rattle.translate.specs.Packs.{listing_bits}
+use Rattle.translate.specs.Packs.{entries_bits as listing_bits}
 use Rattle.text.specs.Reads.{line_at}
 use Rattle.translate.proofs.Packings.{Packs, ZeroBehind}
 use Rattle.translate.proofs.to_log.pack.Given as goal

@@ -5,14 +5,15 @@ use Rattle.items.specs.declared.refusal.Refusal.{Refusal}
 use Rattle.kinds.specs.Articles.{article_layout, article_wording}
 use Rattle.kinds.specs.FieldSets.{field_set_layout, field_set_wording}
 use Rattle.kinds.specs.Spans.{span_layout, span_wording}
-use Rattle.translate.specs.Packs.{log_by_kind, packed_bits}
+use Rattle.translate.specs.Packs.{packed_bits}
 use Rattle.translate.specs.Translation.{translated, text_by_kind, text_of, translated_memory}
 use Rattle.translate.specs.Trips.{PacksAgain, LogComesBack}
+use Rattle.translate.proofs.Listed.{log_by_code}
 use Rattle.translate.proofs.RoundTrips.{log_back}
 use Rattle.translate.proofs.to_text.log_to_text.Goals as goal
 
 -- the answer by the kind that the log tells
-by_kind : (layout : Layout) (kind : Wording) (bytes out after : List ℕ) (r : Result ℕ Refusal) → ((text : List ℕ) (room : ℕ) → log_by_kind text room (Ok layout.code) ≡ packed_bits layout kind text room) → text_of bytes (length out) ≡ translated layout kind bytes (length out) → r ≡ meant length (translated layout kind bytes (length out)) → after ≡ translated_memory out (translated layout kind bytes (length out)) → PacksAgain layout kind bytes (translated layout kind bytes (length out)) → record { answer : r ≡ meant length (text_of bytes (length out)); memory : after ≡ translated_memory out (text_of bytes (length out)); comes_back : LogComesBack bytes (text_of bytes (length out)) }
+by_kind : (layout : Layout) (kind : Wording) (bytes out after : List ℕ) (r : Result ℕ Refusal) → ((text : List ℕ) (room : ℕ) → log_by_code text room (Ok layout.code) ≡ packed_bits layout kind text room) → text_of bytes (length out) ≡ translated layout kind bytes (length out) → r ≡ meant length (translated layout kind bytes (length out)) → after ≡ translated_memory out (translated layout kind bytes (length out)) → PacksAgain layout kind bytes (translated layout kind bytes (length out)) → record { answer : r ≡ meant length (text_of bytes (length out)); memory : after ≡ translated_memory out (text_of bytes (length out)); comes_back : LogComesBack bytes (text_of bytes (length out)) }
 by_kind layout kind bytes out after r which is answer memory again =
     record {
       answer = answer ∙ sym (ap (meant length) is);

@@ -1,8 +1,7 @@
-use Rattle.std.proofs.Common.{◌≡◌, ℕ, ◌+◌, List, length, Ok, Err, Result, sym, refl, ap, ◌∙◌, zero-add, arith}
+use Rattle.std.proofs.Common.{◌≡◌, length, Ok, Err, Result, sym, refl, ap, ◌∙◌, zero-add, arith}
 use Rattle.std.proofs.lemmas.Result.{err_from_is_err_and}
 use Rattle.items.specs.Entries.{entry_meant}
 use Rattle.items.specs.Kinds.{meant}
-use Rattle.items.specs.declared.entry.Entry.{Entry}
 use Rattle.items.specs.declared.refusal.Refusal.{Refusal}
 use Rattle.packed.specs.Entries.{step_meant}
 use Rattle.packed.specs.Headers.{one_kind, header_of}
@@ -11,7 +10,7 @@ use Rattle.packed.specs.Readings.{begun}
 use Rattle.packed.proofs.Steps.{opened_lists, listing_at, meant_err, Moved, step_taken, step_end, step_refused}
 use Rattle.text.specs.Lists.{first_line, entry_line}
 use Rattle.translate.specs.Translation.{lines_of, list_text, translated_behind, translated, writes}
-use Rattle.text.specs.Writing.{begins, adds, writing_after, passed, memory_after}
+use Rattle.text.specs.Writing.{begins, adds, writing_after, passed}
 use Rattle.translate.proofs.Memory.{passed_none, passed_pieces, passes, passes_not}
 use Rattle.translate.proofs.Passes.{answered_ok, answered_err, begins_place, adds_place, pass_begins, pass_on, pass_refused, pass_stopped, pass_ends, translated_as, translated_not_begun, text_length}
 use Rattle.translate.proofs.to_text.pass_over.Given as given
