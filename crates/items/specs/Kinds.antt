@@ -1,6 +1,6 @@
 -- What every item kind shares: its meaning is a list of numbers, its fields. Assumes nothing.
 use Rattle.std.specs.Prelude.{◌≡◌, ℕ, ◌≤◌, Bool, true, false, cond, ◌&&◌, List, [], ◌∷◌, length, Some, None, Ok, Err, Option, Result, ◌==◌}
-use Rattle.std.specs.List.{AllByRecursion as All}
+use Rattle.std.specs.List.{AllByRecursion}
 use Rattle.items.specs.declared.refusal.Reason.TheVariants.{ItemOutOfRange}
 use Rattle.items.specs.declared.refusal.Layer.TheVariants.{Item}
 use Rattle.items.specs.declared.refusal.Refusal.{Refusal}
@@ -45,7 +45,7 @@ pub record Showable (w : Wording) (fs : List ℕ) : Type 0 where
   pub back : w.reads (w.shown fs) ≡ Some fs
   pub counted : length (w.shown fs) ≡ w.count
   pub few : w.count ≤ 4
-  pub short : All (λ n. n ≤ 9999999) (w.shown fs)
+  pub short : AllByRecursion (λ n. n ≤ 9999999) (w.shown fs)
 
 -- the refusal of an item outside its range
 abbrev pub out_of_range : Refusal

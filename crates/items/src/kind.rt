@@ -1,6 +1,6 @@
 // What an item kind is: first what the watch needs of it, then its packed form, then its form in a text list.
 ghost use Rattle.std.specs.Prelude.{◌≡◌, ℕ, ◌^◌, ◌<◌, ◌≤◌, Bool, true, List, length, Some, Decides};
-ghost use Rattle.std.specs.List.{AllByRecursion as All};
+ghost use Rattle.std.specs.List.{AllByRecursion};
 ghost use Rattle.items.specs.Kinds.{same_fields, Layout, Wording, Showable, item_or, meant, ranged};
 ghost use Rattle.items.specs.Lists.{listed};
 
@@ -90,7 +90,7 @@ pub trait TextKind: PackedKind {
 
     ghost shown_is_counted: { (i : Self) → length (wording.shown (Self.Kind.fields i)) ≡ wording.count };
 
-    ghost shown_is_short: { (i : Self) → All (λ n. n ≤ 9999999) (wording.shown (Self.Kind.fields i)) };
+    ghost shown_is_short: { (i : Self) → AllByRecursion (λ n. n ≤ 9999999) (wording.shown (Self.Kind.fields i)) };
 
     // An item can stand in a line.
     ghost item_is_showable: { (i : Self) → Showable wording (Self.Kind.fields i) };

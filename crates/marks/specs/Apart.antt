@@ -1,6 +1,6 @@
 -- Lists in which held marks are told apart. Assumes nothing.
 use Rattle.std.specs.Prelude.{ℕ, ◌^◌, ◌<◌, Bool, true, false, not, ◌&&◌, ◌||◌, List, [], ◌∷◌}
-use Rattle.std.specs.List.{AllByRecursion as All}
+use Rattle.std.specs.List.{AllByRecursion}
 use Rattle.items.specs.declared.mode.Mode.{Mode}
 use Rattle.marks.specs.Marks.{MarkMeant, same_access, is_vacant, is_held_of}
 use Rattle.marks.specs.Places.{any_mark}
@@ -22,4 +22,4 @@ listed_once (a ∷ rest) = not (is_listed rest a.0 a.1) && listed_once rest
 
 -- only bays hold marks: both sets of each mark are below 2^32
 abbrev pub OnlyBays : List MarkMeant → Type 0
-OnlyBays ms = All (λ m. (m.own < 2 ^ 32) × (m.inherited < 2 ^ 32)) ms
+OnlyBays ms = AllByRecursion (λ m. (m.own < 2 ^ 32) × (m.inherited < 2 ^ 32)) ms

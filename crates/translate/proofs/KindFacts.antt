@@ -1,6 +1,6 @@
 -- What a log can hold and what a list can show are the same. Assumes nothing.
 use Rattle.std.proofs.Common.{◌≡◌, ℕ, ◌<◌, List, [], ◌∷◌, Some}
-use Rattle.std.specs.List.{AllByRecursion as All}
+use Rattle.std.specs.List.{AllByRecursion}
 use Rattle.items.specs.Kinds.{Layout, Wording, Showable}
 use Rattle.items.specs.declared.entry.Entry.{Entry}
 use Rattle.items.specs.declared.entry.Event.{Event}
@@ -29,14 +29,14 @@ module _ (layout : Layout) (kind : Wording) (laws : Laws layout kind) where
   valid_told Abort h = tt
   valid_told (Access m fs) h = laws.packed (kind.shown fs) fs h.back
 
-  pub holdable_valid : (bays : ℕ) (es : List (Entry (List ℕ))) → All (Holdable layout bays) es → All (ValidEntry kind bays) es
+  pub holdable_valid : (bays : ℕ) (es : List (Entry (List ℕ))) → AllByRecursion (Holdable layout bays) es → AllByRecursion (ValidEntry kind bays) es
   holdable_valid bays [] all = tt
   holdable_valid bays (e ∷ es) all = (record { below = all.0.bay; event = told_valid e.event all.0.item }, holdable_valid bays es all.1)
 
-  pub valid_holdable : (bays : ℕ) (es : List (Entry (List ℕ))) → All (ValidEntry kind bays) es → All (Holdable layout bays) es
+  pub valid_holdable : (bays : ℕ) (es : List (Entry (List ℕ))) → AllByRecursion (ValidEntry kind bays) es → AllByRecursion (Holdable layout bays) es
   valid_holdable bays [] all = tt
   valid_holdable bays (e ∷ es) all = (record { bay = all.0.below; item = valid_told e.event all.0.event }, valid_holdable bays es all.1)
 
-pub holdable_among : (layout : Layout) (bays : ℕ) (es : List (Entry (List ℕ))) → All (Holdable layout bays) es → All (λ e. e.bay < bays) es
+pub holdable_among : (layout : Layout) (bays : ℕ) (es : List (Entry (List ℕ))) → AllByRecursion (Holdable layout bays) es → AllByRecursion (λ e. e.bay < bays) es
 holdable_among layout bays [] all = tt
 holdable_among layout bays (e ∷ es) all = (all.0.bay, holdable_among layout bays es all.1)

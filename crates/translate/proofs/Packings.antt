@@ -1,6 +1,6 @@
 -- A pass over a list that packs its log: what each step keeps, and what the end says. Assumes nothing.
 use Rattle.std.proofs.Common.{◌≡◌, ℕ, ◌+◌, ◌-◌, ◌*◌, ◌/◌, ◌%◌, ◌<◌, ◌≤◌, Bool, true, false, cond, eqb, List, ◌++◌, length, Some, None, Ok, Err, Option, Result, sym, refl, ap, ◌∙◌, append_assoc, add-zero, arith, length-append}
-use Rattle.std.specs.List.{AllByRecursion as All}
+use Rattle.std.specs.List.{AllByRecursion}
 use Rattle.items.specs.Kinds.{Layout, Wording, meant}
 use Rattle.items.specs.Lines.{pasted}
 use Rattle.items.specs.declared.entry.Entry.{Entry}
@@ -192,6 +192,6 @@ packed_count room (Ok bits) fits = ap Ok (sym (bytes_count bits (length bits / 8
 packed_count room (Err e) fits = refl
 
 -- memory that a log was packed into has its bytes
-pub packed_bytes : (before after : List ℕ) (x : Result (List Bool) Refusal) (n : ℕ) → Fits (length before) x → All (λ b. b < 256) before → All (λ b. b < 256) after → meant (λ bits. length bits / 8) x ≡ Ok n → PackedInto before x after → after ≡ translated_memory before (meant bytes_of x)
+pub packed_bytes : (before after : List ℕ) (x : Result (List Bool) Refusal) (n : ℕ) → Fits (length before) x → AllByRecursion (λ b. b < 256) before → AllByRecursion (λ b. b < 256) after → meant (λ bits. length bits / 8) x ≡ Ok n → PackedInto before x after → after ≡ translated_memory before (meant bytes_of x)
 packed_bytes before after (Ok bits) n fits was small some into = bytes_over before after bits (length bits / 8) was small (fits bits refl).0 (fits bits refl).1 into
 packed_bytes before after (Err e) n fits was small some into = ok_err n e (sym some)

@@ -1,6 +1,6 @@
 -- From a log to a list and back, and from a list to a log and back. Assumes nothing.
 use Rattle.std.proofs.Common.{◌≡◌, ℕ, ◌+◌, ◌/◌, ◌<◌, ◌≤◌, eqb, List, [], ◌++◌, length, Ok, Err, Result, sym, refl, ap, ◌∙◌, append-nil, arith}
-use Rattle.std.specs.List.{AllByRecursion as All}
+use Rattle.std.specs.List.{AllByRecursion}
 use Rattle.std.proofs.lemmas.List.{length-append, drop_at}
 use Rattle.items.specs.Kinds.{Layout, Wording, meant}
 use Rattle.items.specs.declared.entry.Entry.{Entry}
@@ -73,7 +73,7 @@ module _ (layout : Layout) (kind : Wording) (laws : Laws layout kind) (known : K
       }
 
   -- the list of a log, packed again, is the log
-  pub log_comes_back : (bytes text : List ℕ) (room room' : ℕ) → All (λ b. b < 256) bytes → translated layout kind bytes room ≡ Ok text → length bytes ≤ room' → meant bytes_of (packed_bits layout kind text room') ≡ Ok bytes
+  pub log_comes_back : (bytes text : List ℕ) (room room' : ℕ) → AllByRecursion (λ b. b < 256) bytes → translated layout kind bytes room ≡ Ok text → length bytes ≤ room' → meant bytes_of (packed_bits layout kind text room') ≡ Ok bytes
   log_comes_back bytes text room room' small h fits =
       let t = listed_behind bytes text room (header_of (one_kind layout.code) bytes) refl h in
       let bays = t.bays in
@@ -109,7 +109,7 @@ module _ (layout : Layout) (kind : Wording) (laws : Laws layout kind) (known : K
     pub some : 1 ≤ bays
     pub few : bays ≤ 32
     pub short : length (unpadded_bits layout bays entries) ≤ 524288
-    pub valid : All (ValidEntry kind bays) entries
+    pub valid : AllByRecursion (ValidEntry kind bays) entries
     pub text_is : normal_form text ≡ first_line kind bays ++ entry_lines kind entries
     pub bytes_are : log_bytes layout bays entries ≡ bytes
 
@@ -140,7 +140,7 @@ module _ (layout : Layout) (kind : Wording) (laws : Laws layout kind) (known : K
         bytes_are = ap bytes_of (sym (log_is layout bays list) ∙ told.2) ∙ bits.2;
       }
 
-  log_behind : (bytes : List ℕ) (room : ℕ) (c : Contents) (x : Result Header Refusal) → 1 ≤ c.bays → c.bays ≤ 32 → All (λ e. e.bay < c.bays) c.entries → length (first_line kind c.bays ++ entry_lines kind c.entries) ≤ room → behind_header layout bytes x ≡ Ok c → translated_behind layout kind bytes room x ≡ Ok (first_line kind c.bays ++ entry_lines kind c.entries)
+  log_behind : (bytes : List ℕ) (room : ℕ) (c : Contents) (x : Result Header Refusal) → 1 ≤ c.bays → c.bays ≤ 32 → AllByRecursion (λ e. e.bay < c.bays) c.entries → length (first_line kind c.bays ++ entry_lines kind c.entries) ≤ room → behind_header layout bytes x ≡ Ok c → translated_behind layout kind bytes room x ≡ Ok (first_line kind c.bays ++ entry_lines kind c.entries)
   log_behind bytes room c (Err r) some few among fits h = ok_err c r h
   log_behind bytes room c (Ok head) some few among fits h =
       let told = with_bays_is head.bays (entries_of 1 (log_listing layout bytes head.bays)) c h in
@@ -168,7 +168,7 @@ module _ (layout : Layout) (kind : Wording) (laws : Laws layout kind) (known : K
       ap (λ b. translated layout kind b room') (sym p.bytes_are) ∙ back ∙ ap Ok (sym p.text_is)
 
   -- what a log was turned into tells the log's kind, and packs into the log
-  pub packs_again : (bytes : List ℕ) (room : ℕ) → All (λ b. b < 256) bytes → (x : Result (List ℕ) Refusal) → translated layout kind bytes room ≡ x → PacksAgain layout kind bytes x
+  pub packs_again : (bytes : List ℕ) (room : ℕ) → AllByRecursion (λ b. b < 256) bytes → (x : Result (List ℕ) Refusal) → translated layout kind bytes room ≡ x → PacksAgain layout kind bytes x
   packs_again bytes room small (Err r) is = tt
   packs_again bytes room small (Ok text) is =
       let t = listed_behind bytes text room (header_of (one_kind layout.code) bytes) refl is in

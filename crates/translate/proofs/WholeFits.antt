@@ -1,6 +1,6 @@
 -- Entries that have room are packed, and written, whole; and what was packed or written whole was listed to its end. Assumes nothing.
 use Rattle.std.proofs.Common.{◌≡◌, ℕ, ◌+◌, ◌<◌, ◌≤◌, List, [], ◌∷◌, length, Some, Ok, Err, Result, sym, refl, ap, ◌∙◌, arith}
-use Rattle.std.specs.List.{AllByRecursion as All}
+use Rattle.std.specs.List.{AllByRecursion}
 use Rattle.std.proofs.lemmas.List.{length-append}
 use Rattle.std.proofs.lemmas.Bool.{cond-true, lt-ltb, eq-eqb, le-leb, and_from}
 use Rattle.items.specs.Kinds.{Layout, Wording}
@@ -45,7 +45,7 @@ listed_before_lem [] = refl
 listed_before_lem (e ∷ es) = ap (λ l. e ∷ l) (listed_before_lem es)
 
 -- entries that have room are packed whole
-pub packs_fit : (kind : Layout) (room : ℕ) (es : List (Entry (List ℕ))) (p : Packing) → kind.code ≡ p.code → All (λ e. e.bay < p.bays) es → p.place + length (entries_bits kind es) ≤ bit_room room → (q : Packing) × (packs kind room (listed_before es finished) p ≡ Ok q)
+pub packs_fit : (kind : Layout) (room : ℕ) (es : List (Entry (List ℕ))) (p : Packing) → kind.code ≡ p.code → AllByRecursion (λ e. e.bay < p.bays) es → p.place + length (entries_bits kind es) ≤ bit_room room → (q : Packing) × (packs kind room (listed_before es finished) p ≡ Ok q)
 packs_fit kind room [] p code among fits = (p, refl)
 packs_fit kind room (e ∷ es) p code among fits =
     let long : length (entries_bits kind (e ∷ es)) ≡ length (entry_bits kind e) + length (entries_bits kind es) = length-append (entry_bits kind e) (entries_bits kind es) in
@@ -62,7 +62,7 @@ header_fits code room bays some few fits =
     cond-true _ _ _ (and_from _ _ (le-leb 1 bays some) (le-leb bays 32 few)) ∙ cond-true _ _ _ (le-leb 16 (bit_room room) fits)
 
 -- lines that have room are written whole
-pub writes_fit : (kind : Wording) (code room : ℕ) (es : List (Entry (List ℕ))) (w : Writing) → code ≡ w.code → All (λ e. e.bay < w.bays) es → w.place + length (entry_lines kind es) ≤ room → (v : Writing) × (writes kind code room (listed_before es finished) w ≡ Ok v)
+pub writes_fit : (kind : Wording) (code room : ℕ) (es : List (Entry (List ℕ))) (w : Writing) → code ≡ w.code → AllByRecursion (λ e. e.bay < w.bays) es → w.place + length (entry_lines kind es) ≤ room → (v : Writing) × (writes kind code room (listed_before es finished) w ≡ Ok v)
 writes_fit kind code room [] w same among fits = (w, refl)
 writes_fit kind code room (e ∷ es) w same among fits =
     let n = length (entry_line kind e) in
