@@ -52,7 +52,7 @@ impl Kind for FieldSet {
 
     ghost overlapping = { share_field };
 
-    ghost same_when_equal = { first_of (Prim.search rules, Prim.grind (arith, Self.row.coded.inj)) };
+    ghost same_when_equal = { Prim.search rules };
 
     ghost overlap_is_mutual = { of_pairs_comm _ (λ r s q t. let turned = and_comm s t in Prim.grind (arith, nat_tests)) };
 
@@ -72,13 +72,13 @@ impl PackedKind for FieldSet {
 
     ghost layout = { field_set_layout };
 
-    ghost narrow = { first_of (Prim.search rules, Prim.grind (arith, Self.row.coded.inj)) };
+    ghost narrow = { Prim.search rules };
 
-    ghost fields_in_range = { first_of (Prim.search rules, Prim.grind (arith, Self.row.coded.inj)) };
+    ghost fields_in_range = { Prim.search rules };
 
-    ghost bits_read_back = { first_of (Prim.search rules, Prim.grind (arith, Self.row.coded.inj)) };
+    ghost bits_read_back = { Prim.search rules };
 
-    ghost bits_are_an_item = { first_of (Prim.search rules, Prim.grind (arith, Self.row.coded.inj)) };
+    ghost bits_are_an_item = { Prim.search rules };
 
     fn kind_code() -> u8 {
         Self::CODE
@@ -115,19 +115,19 @@ impl PackedKind for FieldSet {
 impl TextKind for FieldSet {
     ghost wording = { field_set_wording };
 
-    ghost shown_reads_back = { first_of (Prim.search rules, Prim.grind (arith, Self.row.coded.inj)) };
+    ghost shown_reads_back = { Prim.search rules };
 
-    ghost shown_is_counted = { first_of (Prim.search rules, Prim.grind (arith, Self.row.coded.inj)) };
+    ghost shown_is_counted = { Prim.search rules };
 
-    ghost shown_is_short = { first_of (Prim.search rules, Prim.grind (arith, Self.row.coded.inj)) };
+    ghost shown_is_short = { Prim.search rules };
 
-    ghost item_is_showable = { first_of (Prim.search rules, Prim.grind (arith, Self.row.coded.inj)) };
+    ghost item_is_showable = { Prim.search rules };
 
-    ghost others_are_refused = { first_of (Prim.search rules, Prim.grind (arith, Self.row.coded.inj)) };
+    ghost others_are_refused = { Prim.search rules };
 
-    ghost packed_is_shown = { first_of (Prim.search rules, Prim.grind (arith, Self.row.coded.inj)) };
+    ghost packed_is_shown = { Prim.search rules };
 
-    ghost shown_is_packed = { first_of (Prim.search rules, Prim.grind (arith, Self.row.coded.inj)) };
+    ghost shown_is_packed = { Prim.search rules };
 
     fn kind_word<'a>() -> &'a [u8] {
         b"fields"
