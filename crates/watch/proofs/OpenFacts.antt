@@ -1,6 +1,5 @@
 -- What opening a mark list says of the marks. Assumes nothing.
-use Rattle.std.proofs.Common.{◌≡◌, ℕ, Bool, true, false, cond, ◌&&◌, leb, List, map, length, Ok, Err, Result, sym, refl, arith}
-use Rattle.items.specs.declared.refusal.Refusal.{Refusal}
+use Rattle.std.proofs.Common.{◌≡◌, ℕ, Bool, true, false, cond, ◌&&◌, leb, List, map, length, Ok, Err, Result, refl, arith}
 use Rattle.marks.specs.declared.mark.Mark.{Mark}
 use Rattle.marks.specs.Marks.{MarkMeant, meant_marks, vacated}
 use Rattle.marks.specs.Opening.{opened}

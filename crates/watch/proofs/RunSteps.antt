@@ -1,6 +1,5 @@
 -- A run with one call more, and from another beginning that is the same. Assumes nothing.
-use Rattle.std.proofs.Common.{◌≡◌, ℕ, ◌+◌, ◌<◌, Bool, List, [], ◌∷◌, ◌++◌, map, length, get_or, take, sym, refl, ap, ◌∙◌, subst, arith}
-use Rattle.std.proofs.lemmas.List.{take_more, map_push}
+use Rattle.std.proofs.Common.{◌≡◌, ℕ, Bool, List, [], ◌∷◌, ◌++◌, length, sym, refl, ◌∙◌, subst, arith}
 use Rattle.items.specs.declared.mode.Mode.{Mode}
 use Rattle.watch.specs.declared.answer.Answer.{Answer}
 use Rattle.watch.specs.Histories.{Call, History, history_after, history_of}

@@ -1,5 +1,5 @@
 -- Opening a watch, and its refusal. Assumes nothing.
-use Rattle.std.specs.Prelude.{◌≡◌, ℕ, Bool, true, false, cond, ◌&&◌, List, [], length, Ok, Err, Result, nat_le}
+use Rattle.std.specs.Prelude.{◌≡◌, ℕ, Bool, true, false, ◌&&◌, List, [], length, Ok, Err, Result, nat_le}
 use Rattle.std.specs.Borrow.{MutBor}
 use Rattle.items.specs.declared.mode.Mode.{Mode}
 use Rattle.boards.specs.Boards.{Links}

@@ -1,5 +1,5 @@
 -- What a call answers, and what it leaves of a state with any list of marks. Assumes nothing.
-use Rattle.std.specs.Prelude.{◌≡◌, ℕ, suc, ◌<◌, min, Bool, true, false, cond, ◌&&◌, ◌||◌, List, set, ◌==◌, nat_lt, slice_set}
+use Rattle.std.specs.Prelude.{◌≡◌, ℕ, suc, ◌<◌, min, Bool, true, false, cond, ◌&&◌, ◌||◌, List, ◌==◌, nat_lt, slice_set}
 use Rattle.items.specs.declared.entry.Event.{Event}
 use Rattle.items.specs.declared.entry.Event.TheVariants.{Begin, Commit, Abort}
 use Rattle.items.specs.declared.mode.Mode.{Mode}

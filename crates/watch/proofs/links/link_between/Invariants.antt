@@ -1,4 +1,4 @@
-use Rattle.std.proofs.Common.{◌≡◌, ℕ, ◌&&◌, ◌||◌, eqb, ltb}
+use Rattle.std.proofs.Common.{◌≡◌, ℕ, ◌&&◌, ◌||◌, ltb}
 use Rattle.boards.specs.BaySets.{bit}
 use Rattle.watch.proofs.links.link_between.Given as goal
 

@@ -1,5 +1,4 @@
 use Rattle.std.proofs.Common.{◌&&◌, ◌||◌, eqb, sym, ap, ◌∙◌}
-use Rattle.boards.specs.BaySets.{bit}
 use Rattle.watch.proofs.LinkLoops.{none_linked, one_linked, one_passed, all_linked, pair_put}
 use Rattle.watch.proofs.links.link_to.Goals as goal
 use Rattle.watch.proofs.links.link_to.Goals.{then-has_bay, else-has_bay}

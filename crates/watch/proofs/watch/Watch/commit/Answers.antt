@@ -1,7 +1,5 @@
-use Rattle.std.proofs.Common.{sym, ap, ◌∙◌}
-use Rattle.items.specs.declared.entry.Event.{Event}
-use Rattle.items.specs.declared.entry.Event.TheVariants.{Begin, Commit, Abort}
-use Rattle.watch.specs.Answers.{done_or, verdict_or, done_of, verdict_of}
+use Rattle.items.specs.declared.entry.Event.TheVariants.{Commit}
+use Rattle.watch.specs.Answers.{verdict_or, verdict_of}
 use Rattle.watch.specs.Watches.{state_of, call_of}
 use Rattle.watch.proofs.AnswerForms.{commit_verdict, step_extends, step_told}
 use Rattle.watch.proofs.watch.Watch.commit.Goals as goal
