@@ -1,12 +1,12 @@
 // Turns a text list on standard input into a packed log on standard output.
 #![tactic(auto)]
 
-use anyhow::anyhow;
 use packed::MOST_BYTES;
 use std::io::{Read, Write};
+use std::process::ExitCode;
 use translate::text_to_log;
 
-fn main(rt: HostRuntime) -> anyhow::Result<()> {
+fn main(rt: HostRuntime) -> anyhow::Result<ExitCode> {
     let mut list = Vec::new(rt.alloc());
     rt.stdin().read_to_end(&mut list)?;
     let mut log = Vec::from_elem(rt.alloc(), 0u8, MOST_BYTES)?;
@@ -14,12 +14,12 @@ fn main(rt: HostRuntime) -> anyhow::Result<()> {
         Ok(length) => {
             log.truncate(length);
             rt.stdout().write_all(log.as_slice())?;
-            Ok(())
+            Ok(ExitCode::SUCCESS)
         }
         Err(refusal) => {
             let line = refusal.line(rt.alloc())?;
             rt.stdout().write_all(line.as_slice())?;
-            Err(anyhow!("refused"))
+            Ok(ExitCode::FAILURE)
         }
     }
 }

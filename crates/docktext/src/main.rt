@@ -1,12 +1,12 @@
 // Turns a packed log on standard input into a text list on standard output.
 #![tactic(auto)]
 
-use anyhow::anyhow;
 use packed::MOST_BYTES;
 use std::io::{Read, Write};
+use std::process::ExitCode;
 use translate::{ROOM_FOR_ANY_LOG, log_to_text};
 
-fn main(rt: HostRuntime) -> anyhow::Result<()> {
+fn main(rt: HostRuntime) -> anyhow::Result<ExitCode> {
     let mut log = Vec::new(rt.alloc());
     rt.stdin()
         .take(MOST_BYTES as u64 + 1)
@@ -16,12 +16,12 @@ fn main(rt: HostRuntime) -> anyhow::Result<()> {
         Ok(length) => {
             list.truncate(length);
             rt.stdout().write_all(list.as_slice())?;
-            Ok(())
+            Ok(ExitCode::SUCCESS)
         }
         Err(refusal) => {
             let line = refusal.line(rt.alloc())?;
             rt.stdout().write_all(line.as_slice())?;
-            Err(anyhow!("refused"))
+            Ok(ExitCode::FAILURE)
         }
     }
 }

@@ -1,12 +1,12 @@
 // Watches a packed log on standard input, and prints what came of it.
 #![tactic(auto)]
 
-use anyhow::anyhow;
 use packed::MOST_BYTES;
 use replay::watch_log;
 use std::io::{Read, Write};
+use std::process::ExitCode;
 
-fn main(rt: HostRuntime) -> anyhow::Result<()> {
+fn main(rt: HostRuntime) -> anyhow::Result<ExitCode> {
     let mut log = Vec::new(rt.alloc());
     rt.stdin()
         .take(MOST_BYTES as u64 + 1)
@@ -15,12 +15,12 @@ fn main(rt: HostRuntime) -> anyhow::Result<()> {
         Ok(summary) => {
             let line = summary.line(rt.alloc())?;
             rt.stdout().write_all(line.as_slice())?;
-            Ok(())
+            Ok(ExitCode::SUCCESS)
         }
         Err(refusal) => {
             let line = refusal.line(rt.alloc())?;
             rt.stdout().write_all(line.as_slice())?;
-            Err(anyhow!("refused"))
+            Ok(ExitCode::FAILURE)
         }
     }
 }
