@@ -50,17 +50,17 @@ pub trait Board: Sized {
     // Whether the first bay links to the second.
     fn has(&self, from: u8, to: u8) -> Result<bool, Refusal>
         ensures answer { result ≡ if_bays from to (linked self.now from to) }
-        ensures after { SameLinks (linked self.now) (linked self.now) };
+        ensures after { SameLinks (linked self.exit.now) (linked self.entry.now) };
 
     // The bays that link to this one, as a number in which bay k counts 2^k.
     fn links_into(&self, bay: u8) -> Result<u32, Refusal>
         ensures answer { result ≡ if_bay bay (bays_into (linked self.now) bay) }
-        ensures after { SameLinks (linked self.now) (linked self.now) };
+        ensures after { SameLinks (linked self.exit.now) (linked self.entry.now) };
 
     // The bays that this one links to, as a number in which bay k counts 2^k.
     fn links_out(&self, bay: u8) -> Result<u32, Refusal>
         ensures answer { result ≡ if_bay bay (bays_out_of (linked self.now) bay) }
-        ensures after { SameLinks (linked self.now) (linked self.now) };
+        ensures after { SameLinks (linked self.exit.now) (linked self.entry.now) };
 
     ghost only_bays: { (s : Self) (a b : ℕ) → linked s a b ≡ true → (a < 32) × (b < 32) };
 }

@@ -117,9 +117,8 @@ pub fn write_line(out: &mut [u8], at: usize, word: &[u8], first: u64, rest: &[u6
 pub fn line_of(heap: Global, word: &[u8], first: u64, rest: &[u64]) -> Result<Vec<u8>, AllocError>
     ensures { IfOk result (λ v. v.items ≡ line word.now (first ∷ rest.now)) }
 {
-    let Some(length) = line_end(usize::MAX, 0, word, first, rest) else {
-        return Err(AllocError);
-    };
+    // No memory has room for a line that is longer than a number says.
+    let length = line_end(usize::MAX, 0, word, first, rest).unwrap_or(usize::MAX);
     let mut made = Vec::from_elem(heap, 0u8, length)?;
     let _ = write_line(made.as_mut_slice(), 0, word, first, rest);
     Ok(made)
