@@ -4,3 +4,4 @@ pub mod Kinds
 pub mod Entries
 pub mod Lists
 pub mod Lines
+pub mod KindNames

@@ -76,9 +76,18 @@ impl Layer {
             Layer::Text => b"text",
         }
     }
-}
 
-impl Layer {
+    // The refusal that this layer gives for a reason, at the entry of this number.
+    pub fn refusal(self, reason: Reason, entry: u64) -> Refusal
+        ensures { result ≡ record { reason = reason; layer = self; entry = entry } }
+    {
+        Refusal {
+            reason,
+            layer: self,
+            entry,
+        }
+    }
+
     // The word, behind the one that begins a refusal's line.
     fn heading(self) -> &'static [u8]
         ensures { result.now ≡ refused ++ word_of self }
