@@ -1,4 +1,3 @@
 pub mod FieldLists
 pub mod Pasting
-pub mod Numbers
 pub mod Fitting

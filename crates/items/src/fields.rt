@@ -2,6 +2,8 @@
 ghost use Rattle.std.specs.Prelude.{◌≡◌, ◌≤◌, [], ◌∷◌, ◌++◌, length, take, if◌then◌else◌, Some, None, nat_lt};
 ghost use Rattle.std.specs.Option.{option_map};
 
+use std::array;
+
 // Up to four numbers: the first `count` of the values.
 #[derive(Clone, Copy)]
 pub struct Fields {
@@ -12,30 +14,13 @@ pub struct Fields {
 }
 
 impl Fields {
-    pub fn none() -> Fields
-        ensures { take result.count result.values ≡ [] }
+    // The first four of these numbers, or all of them where there are no more.
+    pub fn of(numbers: &[u64]) -> Fields
+        ensures { take result.count result.values ≡ take 4 numbers.now }
     {
         Fields {
-            values: [0, 0, 0, 0],
-            count: 0,
-        }
-    }
-
-    pub fn one(a: u64) -> Fields
-        ensures { take result.count result.values ≡ a ∷ [] }
-    {
-        Fields {
-            values: [a, 0, 0, 0],
-            count: 1,
-        }
-    }
-
-    pub fn two(a: u64, b: u64) -> Fields
-        ensures { take result.count result.values ≡ a ∷ b ∷ [] }
-    {
-        Fields {
-            values: [a, b, 0, 0],
-            count: 2,
+            values: array::from_fn(|k| *numbers.get(k).unwrap_or(&0)),
+            count: numbers.len().min(4),
         }
     }
 

@@ -30,15 +30,25 @@ pub trait PackedKind: Kind {
 
     const WIDTH: usize;
 
+    ghost CODE: { ℕ };
+
+    ghost WIDTH: { ℕ };
+
     ghost layout: { Layout };
 
-    // The constant, in words that a contract can cite.
+    // What stands for the kind in the header of a packed log.
     fn kind_code() -> u8
-        ensures { result ≡ layout.code };
+        ensures { result ≡ layout.code }
+    {
+        Self::CODE
+    }
 
-    // The constant, in words that a contract can cite.
+    // How many bits an item has in a packed log.
     fn bit_width() -> usize
-        ensures { result ≡ layout.width };
+        ensures { result ≡ layout.width }
+    {
+        Self::WIDTH
+    }
 
     // An item of the kind, whichever, to fill memory with.
     fn filler() -> Self;
@@ -56,6 +66,8 @@ pub trait PackedKind: Kind {
     // The item of these bits; any other number is refused.
     fn from_bits(bits: u32) -> Result<Self, Refusal>
         ensures { meant Self.Kind.fields result ≡ item_or (layout.unpacked bits) };
+
+    ghost layout_is_of_the_kind: { (layout.code ≡ CODE) × (layout.width ≡ WIDTH) };
 
     ghost narrow: { (layout.code < 8) × (layout.width ≤ 32) };
 

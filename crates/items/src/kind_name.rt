@@ -6,9 +6,9 @@ use crate::refusal::Reason;
 
 #[derive(Clone, Copy, Debug, PartialEq)]
 pub enum KindName {
-    Article,
-    Span,
-    FieldSet,
+    Article = 1,
+    Span = 2,
+    FieldSet = 3,
 }
 
 impl KindName {
@@ -16,11 +16,7 @@ impl KindName {
     pub fn code(self) -> u8
         ensures { result ≡ code_of self }
     {
-        match self {
-            KindName::Article => 1,
-            KindName::Span => 2,
-            KindName::FieldSet => 3,
-        }
+        self as u8
     }
 }
 

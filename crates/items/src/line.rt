@@ -2,35 +2,14 @@
 ghost use Rattle.std.specs.Prelude.{◌≡◌, ◌+◌, ◌≤◌, ◌∷◌, length, IfOk, decimal};
 ghost use Rattle.items.specs.Lines.{spaced, ending, line, pasted, fitted, pasted_if};
 
-use std::alloc::{AllocError, Global};
+use itoa::Buffer;
 
 // How many digits a number has.
 fn digits(n: u64) -> usize
     ensures value { result ≡ length (decimal n) }
     ensures few { result ≤ 20 }
 {
-    let mut count = 1;
-    let mut rest = n;
-    while rest >= 10 {
-        rest /= 10;
-        count += 1;
-    }
-    count
-}
-
-// Writes a number in decimal.
-fn put_number(out: &mut [u8], at: usize, n: u64)
-    requires { at + length (decimal n) ≤ length out.old }
-    ensures { out.new ≡ pasted out.old at (decimal n) }
-{
-    let mut last = digits(n) - 1;
-    let mut rest = n;
-    while rest >= 10 {
-        out[at + last] = 48 + (rest % 10) as u8;
-        rest /= 10;
-        last -= 1;
-    }
-    out[at] = 48 + rest as u8;
+    Buffer::new().format(n).len()
 }
 
 // The place after so many bytes, where they fit.
@@ -64,9 +43,11 @@ fn put_spaced(out: &mut [u8], at: usize, n: u64) -> usize
     ensures place { result ≡ at + length (spaced n) }
     ensures memory { out.new ≡ pasted out.old at (spaced n) }
 {
+    let mut buffer = Buffer::new();
+    let digits = buffer.format(n).as_bytes();
     out[at] = b' ';
-    put_number(out, at + 1, n);
-    at + 1 + digits(n)
+    put_bytes(out, at + 1, digits);
+    at + 1 + digits.len()
 }
 
 // Writes numbers, each behind a space, and a newline.
@@ -111,15 +92,4 @@ pub fn write_line(out: &mut [u8], at: usize, word: &[u8], first: u64, rest: &[u6
     let place = put_spaced(out, at + word.len(), first);
     put_ending(out, place, rest);
     Some(end)
-}
-
-// Makes a line in memory of its own.
-pub fn line_of(heap: Global, word: &[u8], first: u64, rest: &[u64]) -> Result<Vec<u8>, AllocError>
-    ensures { IfOk result (λ v. v.items ≡ line word.now (first ∷ rest.now)) }
-{
-    // No memory has room for a line that is longer than a number says.
-    let length = line_end(usize::MAX, 0, word, first, rest).unwrap_or(usize::MAX);
-    let mut made = Vec::from_elem(heap, 0u8, length)?;
-    let _ = write_line(made.as_mut_slice(), 0, word, first, rest);
-    Ok(made)
 }

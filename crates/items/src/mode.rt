@@ -23,12 +23,7 @@ impl Mode {
     fn row(self) -> usize
         ensures { result ≡ row_of self }
     {
-        match self {
-            Mode::Look => 0,
-            Mode::Set => 1,
-            Mode::Add => 2,
-            Mode::Raise => 3,
-        }
+        self as usize
     }
 
     // Whether an access in this mode conflicts with one in the other mode on an overlapping item.

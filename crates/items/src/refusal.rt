@@ -1,30 +1,31 @@
 // Why a call is refused: a reason, the layer whose check failed, and the entry at which it failed.
-ghost use Rattle.std.specs.Prelude.{◌≡◌, ◌++◌, length, IfOk};
+ghost use Rattle.std.specs.Prelude.{◌≡◌, ◌++◌, length, IfOk, decimal, Some};
 ghost use Rattle.items.specs.Refusals.{number_of, word_of, refused};
-ghost use Rattle.items.specs.Lines.{fitted, pasted_if, refusal_line};
+ghost use Rattle.items.specs.Lines.{fitted, pasted_if, refusal_text, refusal_line};
 
-use crate::line::{line_of, write_line};
+use crate::line::write_line;
 use std::alloc::{AllocError, Global};
+use std::fmt;
 
 // The sixteen reasons.
 #[derive(Clone, Copy, Debug, PartialEq)]
 pub enum Reason {
-    BadSize,
-    AfterCrossing,
-    NoSuchBay,
-    BayOpen,
-    BayIdle,
-    NoVacantMark,
-    ItemOutOfRange,
-    ShortHeader,
-    UnknownForm,
-    OtherKind,
-    SpareBitSet,
-    NoOperation,
-    EntryCut,
-    LogTooLong,
-    MemoryTooShort,
-    MalformedLine,
+    BadSize = 1,
+    AfterCrossing = 2,
+    NoSuchBay = 3,
+    BayOpen = 4,
+    BayIdle = 5,
+    NoVacantMark = 6,
+    ItemOutOfRange = 7,
+    ShortHeader = 8,
+    UnknownForm = 9,
+    OtherKind = 10,
+    SpareBitSet = 11,
+    NoOperation = 12,
+    EntryCut = 13,
+    LogTooLong = 14,
+    MemoryTooShort = 15,
+    MalformedLine = 16,
 }
 
 impl Reason {
@@ -32,24 +33,16 @@ impl Reason {
     pub fn number(self) -> u8
         ensures { result ≡ number_of self }
     {
-        match self {
-            Reason::BadSize => 1,
-            Reason::AfterCrossing => 2,
-            Reason::NoSuchBay => 3,
-            Reason::BayOpen => 4,
-            Reason::BayIdle => 5,
-            Reason::NoVacantMark => 6,
-            Reason::ItemOutOfRange => 7,
-            Reason::ShortHeader => 8,
-            Reason::UnknownForm => 9,
-            Reason::OtherKind => 10,
-            Reason::SpareBitSet => 11,
-            Reason::NoOperation => 12,
-            Reason::EntryCut => 13,
-            Reason::LogTooLong => 14,
-            Reason::MemoryTooShort => 15,
-            Reason::MalformedLine => 16,
-        }
+        self as u8
+    }
+}
+
+impl fmt::Display for Reason {
+    ghost output = { λ r. Some (decimal (number_of r)) };
+
+    fn fmt<W: fmt::Write>(&self, f: &mut fmt::Formatter<W>) -> fmt::Result {
+        let number = self.number();
+        write!(f, "{number}")
     }
 }
 
@@ -65,15 +58,15 @@ pub enum Layer {
 
 impl Layer {
     // The word by which a layer is printed.
-    pub fn word(self) -> &'static [u8]
+    pub fn word(self) -> &'static str
         ensures { result.now ≡ word_of self }
     {
         match self {
-            Layer::Item => b"item",
-            Layer::Board => b"board",
-            Layer::Watch => b"watch",
-            Layer::Log => b"log",
-            Layer::Text => b"text",
+            Layer::Item => "item",
+            Layer::Board => "board",
+            Layer::Watch => "watch",
+            Layer::Log => "log",
+            Layer::Text => "text",
         }
     }
 
@@ -102,6 +95,14 @@ impl Layer {
     }
 }
 
+impl fmt::Display for Layer {
+    ghost output = { λ l. Some (word_of l) };
+
+    fn fmt<W: fmt::Write>(&self, f: &mut fmt::Formatter<W>) -> fmt::Result {
+        f.write_str(self.word())
+    }
+}
+
 // A refused call: nothing has changed, and this says why.
 #[derive(Clone, Copy, Debug, PartialEq)]
 pub struct Refusal {
@@ -109,6 +110,19 @@ pub struct Refusal {
     pub layer: Layer,
     // The header or first line is entry 0, the first entry is 1; 0 too where no log or list is read or written.
     pub entry: u64,
+}
+
+impl fmt::Display for Refusal {
+    ghost output = { λ r. Some (refusal_text r) };
+
+    fn fmt<W: fmt::Write>(&self, f: &mut fmt::Formatter<W>) -> fmt::Result {
+        let Refusal {
+            reason,
+            layer,
+            entry,
+        } = self;
+        write!(f, "REFUSED {layer} {reason} {entry}")
+    }
 }
 
 impl Refusal {
@@ -132,8 +146,6 @@ impl Refusal {
     pub fn line(&self, heap: Global) -> Result<Vec<u8>, AllocError>
         ensures { IfOk result (λ v. v.items ≡ refusal_line self.now) }
     {
-        let word = self.layer.heading();
-        let number = self.reason.number() as u64;
-        line_of(heap, word, number, &[self.entry])
+        Ok(format!(in heap; "{self}\n")?.into_bytes())
     }
 }

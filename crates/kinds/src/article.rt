@@ -7,7 +7,7 @@ ghost use Rattle.std.proofs.Common.{rules, arith};
 
 use items::{Fields, Kind, PackedKind, Refusal, TextKind};
 
-#[derive(Clone, Copy)]
+#[derive(Clone, Copy, Debug, PartialEq)]
 pub struct Article {
     number: u16,
     ghost small: { number < 16384 },
@@ -43,7 +43,7 @@ impl Kind for Article {
     ghost overlap_is_mutual = { same_fields_comm };
 
     fn same(&self, other: &Article) -> bool {
-        self.number == other.number
+        self == other
     }
 
     fn overlaps(&self, other: &Article) -> bool {
@@ -56,7 +56,13 @@ impl PackedKind for Article {
 
     const WIDTH: usize = 14;
 
+    ghost CODE = { 1 };
+
+    ghost WIDTH = { 14 };
+
     ghost layout = { article_layout };
+
+    ghost layout_is_of_the_kind = { Prim.search rules };
 
     ghost narrow = { Prim.search rules };
 
@@ -66,20 +72,12 @@ impl PackedKind for Article {
 
     ghost bits_are_an_item = { Prim.search rules };
 
-    fn kind_code() -> u8 {
-        Self::CODE
-    }
-
-    fn bit_width() -> usize {
-        Self::WIDTH
-    }
-
     fn filler() -> Article {
         Article { number: 0 }
     }
 
     fn to_fields(&self) -> Fields {
-        Fields::one(self.number as u64)
+        Fields::of(&[self.number as u64])
     }
 
     fn from_fields(fields: &[u64]) -> Result<Article, Refusal> {

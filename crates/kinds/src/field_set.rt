@@ -10,7 +10,7 @@ ghost use Rattle.items.proofs.FieldLists.{of_pairs_comm};
 use items::{Fields, Kind, PackedKind, Refusal, TextKind};
 
 // A set is a number in which field k counts 2^k.
-#[derive(Clone, Copy)]
+#[derive(Clone, Copy, Debug, PartialEq)]
 pub struct FieldSet {
     row: u32,
     set: u32,
@@ -57,7 +57,7 @@ impl Kind for FieldSet {
     ghost overlap_is_mutual = { of_pairs_comm _ (λ r s q t. let turned = and_comm s t in Prim.grind (arith, nat_tests)) };
 
     fn same(&self, other: &FieldSet) -> bool {
-        self.row == other.row && self.set == other.set
+        self == other
     }
 
     fn overlaps(&self, other: &FieldSet) -> bool {
@@ -70,7 +70,13 @@ impl PackedKind for FieldSet {
 
     const WIDTH: usize = 18;
 
+    ghost CODE = { 3 };
+
+    ghost WIDTH = { 18 };
+
     ghost layout = { field_set_layout };
+
+    ghost layout_is_of_the_kind = { Prim.search rules };
 
     ghost narrow = { Prim.search rules };
 
@@ -80,20 +86,12 @@ impl PackedKind for FieldSet {
 
     ghost bits_are_an_item = { Prim.search rules };
 
-    fn kind_code() -> u8 {
-        Self::CODE
-    }
-
-    fn bit_width() -> usize {
-        Self::WIDTH
-    }
-
     fn filler() -> FieldSet {
         FieldSet { row: 0, set: 1 }
     }
 
     fn to_fields(&self) -> Fields {
-        Fields::two(self.row as u64, self.set as u64)
+        Fields::of(&[self.row as u64, self.set as u64])
     }
 
     fn from_fields(fields: &[u64]) -> Result<FieldSet, Refusal> {

@@ -8,7 +8,7 @@ ghost use Rattle.items.proofs.FieldLists.{of_pairs_comm};
 
 use items::{Fields, Kind, PackedKind, Refusal, TextKind};
 
-#[derive(Clone, Copy)]
+#[derive(Clone, Copy, Debug, PartialEq)]
 pub struct Span {
     start: u32,
     length: u32,
@@ -54,7 +54,7 @@ impl Kind for Span {
     ghost overlap_is_mutual = { of_pairs_comm _ (λ s l t m. Prim.grind (arith, nat_tests)) };
 
     fn same(&self, other: &Span) -> bool {
-        self.start == other.start && self.length == other.length
+        self == other
     }
 
     fn overlaps(&self, other: &Span) -> bool {
@@ -67,7 +67,13 @@ impl PackedKind for Span {
 
     const WIDTH: usize = 26;
 
+    ghost CODE = { 2 };
+
+    ghost WIDTH = { 26 };
+
     ghost layout = { span_layout };
+
+    ghost layout_is_of_the_kind = { Prim.search rules };
 
     ghost narrow = { Prim.search rules };
 
@@ -77,14 +83,6 @@ impl PackedKind for Span {
 
     ghost bits_are_an_item = { Prim.search rules };
 
-    fn kind_code() -> u8 {
-        Self::CODE
-    }
-
-    fn bit_width() -> usize {
-        Self::WIDTH
-    }
-
     fn filler() -> Span {
         Span {
             start: 0,
@@ -93,7 +91,7 @@ impl PackedKind for Span {
     }
 
     fn to_fields(&self) -> Fields {
-        Fields::two(self.start as u64, self.length as u64)
+        Fields::of(&[self.start as u64, self.length as u64])
     }
 
     fn from_fields(fields: &[u64]) -> Result<Span, Refusal> {
