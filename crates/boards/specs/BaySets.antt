@@ -22,10 +22,6 @@ is_this bay k = is_bay bay && k == bay
 abbrev pub in_either : ℕ → ℕ → ℕ → Bool
 in_either s t k = bit t k || bit s k
 
--- whether k is in the first of two sets and not in the second
-abbrev pub in_first_only : ℕ → ℕ → ℕ → Bool
-in_first_only s t k = not (bit t k) && bit s k
-
 -- whether k is in a set or is a given bay
 abbrev pub with_bay : ℕ → ℕ → ℕ → Bool
 with_bay s bay k = is_this bay k || bit s k

@@ -1,6 +1,6 @@
 // Sets of bays as 32-bit numbers in which bay k counts 2^k; bits are handled here and nowhere else.
 ghost use Rattle.std.specs.Prelude.{◌≡◌, ℕ};
-ghost use Rattle.boards.specs.BaySets.{bit, is_bay, is_this, in_either, in_first_only, with_bay, without_bay};
+ghost use Rattle.boards.specs.BaySets.{bit, set_number, is_bay, is_this, in_either, with_bay, without_bay};
 
 // How many bays there are.
 pub(crate) const BAYS: usize = 32;
@@ -19,20 +19,6 @@ fn only_bay(bay: u8) -> u32
     if is_bay(bay) { 1 << bay } else { 0 }
 }
 
-// The bays of both sets.
-fn add_all(bays: u32, more: u32) -> u32
-    ensures { (k : ℕ) → bit result k ≡ in_either bays more k }
-{
-    bays | more
-}
-
-// The bays of the first set that are not in the second.
-fn remove_all(bays: u32, gone: u32) -> u32
-    ensures { (k : ℕ) → bit result k ≡ in_first_only bays gone k }
-{
-    bays ^ (bays & gone)
-}
-
 // Whether a bay is in the set; a number that is no bay is in none.
 pub fn has_bay(bays: u32, bay: u8) -> bool
     ensures { result ≡ bit bays bay }
@@ -40,16 +26,26 @@ pub fn has_bay(bays: u32, bay: u8) -> bool
     is_bay(bay) && (bays >> bay) % 2 == 1
 }
 
+// The bays of both sets.
+pub fn with_bays(bays: u32, more: u32) -> u32
+    ensures members { (k : ℕ) → bit result k ≡ in_either bays more k }
+    ensures number { result ≡ set_number (in_either bays more) 32 }
+{
+    bays | more
+}
+
 // The set with one more bay; a number that is no bay adds none.
 pub fn with_bay(bays: u32, bay: u8) -> u32
-    ensures { (k : ℕ) → bit result k ≡ with_bay bays bay k }
+    ensures members { (k : ℕ) → bit result k ≡ with_bay bays bay k }
+    ensures number { result ≡ set_number (with_bay bays bay) 32 }
 {
-    add_all(bays, only_bay(bay))
+    with_bays(bays, only_bay(bay))
 }
 
 // The set without one bay.
 pub fn without_bay(bays: u32, bay: u8) -> u32
-    ensures { (k : ℕ) → bit result k ≡ without_bay bays bay k }
+    ensures members { (k : ℕ) → bit result k ≡ without_bay bays bay k }
+    ensures number { result ≡ set_number (without_bay bays bay) 32 }
 {
-    remove_all(bays, only_bay(bay))
+    bays & !only_bay(bay)
 }

@@ -8,7 +8,7 @@ mod pair_list;
 #[cfg(test)]
 mod tests;
 
-pub use bay_set::{has_bay, with_bay, without_bay};
+pub use bay_set::{has_bay, with_bay, with_bays, without_bay};
 pub use bit_board::BitBoard;
 pub use board::Board;
 pub use pair_list::PairList;

@@ -7,7 +7,7 @@ use Rattle.boards.proofs.bit_board.clear_column.Goals as goal
 
 pub loop-row-preserved : goal.loop-row-preserved
 loop-row-preserved c a k =
-    let before = c.loop-row.invariant a k in let cleared = c.without_bay.ensures k in
+    let before = c.loop-row.invariant a k in let cleared = c.without_bay.ensures.members k in
     cells_set c.loop-row.rows c.loop-row.row-index c.without_bay.result a k (omega arith) ∙ grind (arith, nat_tests)
 
 pub returns : goal.returns

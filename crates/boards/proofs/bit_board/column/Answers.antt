@@ -9,7 +9,7 @@ loop-from-preserved c =
     elim c.if-has_bay.branch [
       | then-has_bay w ↦ (
         rw w.bays-is w.with_bay-bays.type_inv,
-        λ k. let before = c.loop-from.invariant.1 k in let added = w.with_bay-bays.ensures k in rw w.bays-is (grind (arith, nat_tests)),
+        λ k. let before = c.loop-from.invariant.1 k in let added = w.with_bay-bays.ensures.members k in rw w.bays-is (grind (arith, nat_tests)),
       )
       | else-has_bay w ↦ (
         rw w.bays-is c.loop-from.invariant.0,

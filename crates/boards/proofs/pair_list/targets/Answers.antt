@@ -12,7 +12,7 @@ loop-pair-preserved c =
     elim c.if-pair-bay.branch [
       | then-pair-bay w ↦ (
         rw w.bays-is w.with_bay-bays.type_inv,
-        λ k. let before = c.loop-pair.invariant.1 k in let added = w.with_bay-bays.ensures k in let more = here c.args.bay k in rw w.bays-is (grind (arith, nat_tests)),
+        λ k. let before = c.loop-pair.invariant.1 k in let added = w.with_bay-bays.ensures.members k in let more = here c.args.bay k in rw w.bays-is (grind (arith, nat_tests)),
       )
       | else-pair-bay w ↦ (
         rw w.bays-is c.loop-pair.invariant.0,
