@@ -1,3 +1,5 @@
 pub mod BitLaws
 pub mod BoardLaws
 mod MatrixLaws
+pub mod PairLaws
+mod Counts

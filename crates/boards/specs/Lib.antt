@@ -2,5 +2,3 @@ pub mod BaySets
 pub mod Boards
 pub mod Matrices
 pub mod PairLists
-pub mod PairLaws
-pub mod Counts

@@ -1,6 +1,9 @@
 // Sets of bays as 32-bit numbers in which bay k counts 2^k; bits are handled here and nowhere else.
 ghost use Rattle.std.specs.Prelude.{◌≡◌, ℕ};
 ghost use Rattle.boards.specs.BaySets.{bit, set_number, is_bay, is_this, in_either, with_bay, without_bay};
+ghost use Rattle.boards.specs.declared.bay.Bay.{Bay};
+
+use crate::bay::Bay;
 
 // How many bays there are.
 pub(crate) const BAYS: usize = 32;
@@ -48,4 +51,18 @@ pub fn without_bay(bays: u32, bay: u8) -> u32
     ensures number { result ≡ set_number (without_bay bays bay) 32 }
 {
     bays & !only_bay(bay)
+}
+
+// The bays that pass a test.
+pub(crate) fn bays_that<F: Fn(Bay) -> bool>(test: F) -> u32
+    requires { F.IsAlwaysCallable test }
+    ensures { (bay : Bay) → F.post test bay (bit result bay.number) }
+{
+    let mut bays = 0;
+    for number in 0..BAYS as u8 {
+        if test(Bay { number }) {
+            bays = with_bay(bays, number);
+        }
+    }
+    bays
 }

@@ -2,33 +2,7 @@
 ghost use Rattle.std.specs.Prelude.{◌≡◌, ℕ, ◌<◌, true};
 ghost use Rattle.boards.specs.Boards.{Links, SameLinks, no_links, after_put, after_drop, bays_into, bays_out_of, if_bay, if_bays};
 
-use crate::bay_set::is_bay;
-use items::{Layer, Reason, Refusal};
-
-const NO_SUCH_BAY: Refusal = Refusal {
-    reason: Reason::NoSuchBay,
-    layer: Layer::Board,
-    entry: 0,
-};
-
-// Refuses a number above 31 as a bay.
-pub(crate) fn check_bay(bay: u8) -> Result<(), Refusal>
-    ensures { result ≡ if_bay bay tt }
-{
-    if is_bay(bay) {
-        Ok(())
-    } else {
-        Err(NO_SUCH_BAY)
-    }
-}
-
-// Refuses a pair in which either number is above 31.
-pub(crate) fn check_pair(from: u8, to: u8) -> Result<(), Refusal>
-    ensures { result ≡ if_bays from to tt }
-{
-    check_bay(from)?;
-    check_bay(to)
-}
+use items::Refusal;
 
 // A call that names a bay above 31 is refused and changes nothing; no other call is refused.
 pub trait Board: Sized {

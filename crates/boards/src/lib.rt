@@ -1,9 +1,11 @@
 // Link boards: which bays link to which.
 #![tactic(auto)]
 
+mod bay;
 mod bay_set;
 mod bit_board;
 mod board;
+mod pair;
 mod pair_list;
 #[cfg(test)]
 mod tests;

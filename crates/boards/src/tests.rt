@@ -69,31 +69,25 @@ fn filled<B: Board + Drop>() -> Result<u32, Refusal> {
     board.links_into(31)
 }
 
-// The number of the reason for which a call was refused, or 0.
-fn reason<T: Drop>(answer: Result<T, Refusal>) -> u8 {
-    match answer {
-        Ok(_) => 0,
-        Err(refusal) => refusal.reason.number(),
-    }
+// The number of the reason for which a call was refused.
+fn reason<T: Drop>(answer: Result<T, Refusal>) -> Option<u8> {
+    answer.err().map(|refusal| refusal.reason.number())
 }
 
 // The answer of a call that is not to be refused.
 fn taken<T>(answer: Result<T, Refusal>) -> Result<T, Fail> {
-    match answer {
-        Ok(value) => Ok(value),
-        Err(_) => Err(Fail::new("a bay was refused")),
-    }
+    answer.map_err(|_| Fail::new("a bay was refused"))
 }
 
 // Every call that names bay 32 is refused, and nothing has changed.
 fn refusals<B: Board + Drop>(rt: &impl Abort) -> Result<(), Fail> {
     let mut board = B::new();
-    assert_eq!(rt; reason(board.put(32, 0)), 3);
-    assert_eq!(rt; reason(board.put(0, 32)), 3);
-    assert_eq!(rt; reason(board.drop_bay(32)), 3);
-    assert_eq!(rt; reason(board.has(0, 32)), 3);
-    assert_eq!(rt; reason(board.links_into(32)), 3);
-    assert_eq!(rt; reason(board.links_out(32)), 3);
+    assert_eq!(rt; reason(board.put(32, 0)), Some(3));
+    assert_eq!(rt; reason(board.put(0, 32)), Some(3));
+    assert_eq!(rt; reason(board.drop_bay(32)), Some(3));
+    assert_eq!(rt; reason(board.has(0, 32)), Some(3));
+    assert_eq!(rt; reason(board.links_into(32)), Some(3));
+    assert_eq!(rt; reason(board.links_out(32)), Some(3));
     assert_eq!(rt; taken(board.links_out(0))?, 0);
     Ok(())
 }

@@ -5,4 +5,4 @@ use Rattle.boards.proofs.bit_board.clear_column.Given as goal
 
 abbrev pub invariant-loop-row : goal.invariant-loop-row
 invariant-loop-row l =
-    (a k : ℕ) → cells l.rows a k ≡ cond (ltb a l.row-index) (without_into (cells l.initial.rows) l.bay a k) (cells l.initial.rows a k)
+    (a k : ℕ) → cells l.rows a k ≡ cond (ltb a l.row-index) (without_into (cells l.initial.rows) l.bay.number a k) (cells l.initial.rows a k)

@@ -4,10 +4,8 @@ use Rattle.boards.proofs.BitLaws.{bit_zero}
 use Rattle.boards.proofs.MatrixLaws.{cells_set}
 use Rattle.boards.proofs.bit_board.BitBoardBoard.drop_bay.Goals as goal
 
-pub returns : goal.returns
-returns c =
-    let checked = c.in_ok-check_bay.ensures in
-    record {
-      answer = search rules;
-      after = λ a b. let cleared = c.clear_column.ensures a b in let none = bit_zero b in let emptied = cells_set c.clear_column.new.rows c.args.bay 0 a b (search rules) in grind (arith, nat_tests);
-    }
+pub returns-clause-after : goal.returns-clause-after
+returns-clause-after c a b =
+    let named = c.in_ok-bay.ensures in let cleared = c.clear_column.ensures a b in let none = bit_zero b in
+    let emptied = cells_set c.clear_column.new.rows c.in_ok-bay.bay.number 0 a b (search rules) in
+    grind (arith, nat_tests)
