@@ -7,11 +7,15 @@ use Rattle.boards.proofs.pair_list.PairListBoard.drop_bay.Goals as goal
 
 pub invariant_of-self : goal.invariant_of-self
 invariant_of-self c =
-    let left : c.retain.new.self.items ≡ filter (spares c.in_ok-bay.bay.number) c.args.self.now.pairs.items = filter-from_retain _ _ _ (λ x b f' y called. search rules) _ _ c.retain.ensures.filtered in
-    record { once = ap none_twice left ∙ once_kept c.in_ok-bay.bay.number c.args.self.now.pairs.items c.args.self.now.once }
+    let pairs = c.args.self.now.pairs.items in let bay = c.in_ok-bay.bay.number in
+    let left : c.retain.new.self.items ≡ filter (spares bay) pairs =
+    filter-from_retain _ (spares bay) _ (λ x b f' y called. search rules) pairs c.retain.new.self.items c.retain.ensures.filtered in
+    record { once = ap none_twice left ∙ once_kept bay pairs c.args.self.now.once }
 
 pub returns-clause-after : goal.returns-clause-after
 returns-clause-after c a b =
     let named = c.in_ok-bay.ensures in
-    let left : c.retain.new.self.items ≡ filter (spares c.in_ok-bay.bay.number) c.args.self.now.pairs.items = filter-from_retain _ _ _ (λ x b f' y called. search rules) _ _ c.retain.ensures.filtered in
-    ap (λ ps. listed_links ps a b) left ∙ listed_kept c.in_ok-bay.bay.number c.args.self.now.pairs.items a b ∙ grind (arith, nat_tests)
+    let pairs = c.args.self.now.pairs.items in let bay = c.in_ok-bay.bay.number in
+    let left : c.retain.new.self.items ≡ filter (spares bay) pairs =
+    filter-from_retain _ (spares bay) _ (λ x b f' y called. search rules) pairs c.retain.new.self.items c.retain.ensures.filtered in
+    ap (λ ps. listed_links ps a b) left ∙ listed_kept bay pairs a b ∙ grind (arith, nat_tests)
