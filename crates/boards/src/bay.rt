@@ -16,7 +16,7 @@ pub(crate) struct Bay {
     ghost below: { number < 32 },
 }
 
-// The bay in a place that is not used yet.
+// Bay 0 stands in the places of a list that are not used yet.
 impl Default for Bay {
     ghost is_default = { λ bay. bay.number ≡ 0 };
 

@@ -1,5 +1,5 @@
 // A link board as a square bit matrix: 32 words, and in the word of each bay the set of bays that it links to.
-ghost use Rattle.std.specs.Prelude.{◌≡◌, ◌<◌, length};
+ghost use Rattle.std.specs.Prelude.{◌≡◌};
 ghost use Rattle.boards.specs.Boards.{SameLinks, without_into};
 ghost use Rattle.boards.specs.Matrices.{cells, matrix_links};
 ghost use Rattle.std.proofs.Common.{rules};
