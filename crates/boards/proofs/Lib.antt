@@ -1,4 +1,4 @@
 pub mod BitLaws
 pub mod BoardLaws
 pub mod PairLaws
-mod Counts
+pub mod Counts
