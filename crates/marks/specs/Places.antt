@@ -1,9 +1,9 @@
 -- Where in a list of marks an item and mode can be held. Assumes nothing.
-use Rattle.std.specs.Prelude.{◌≡◌, ℕ, zero, suc, Bool, true, false, not, ◌&&◌, ◌||◌, List, [], ◌∷◌, slice_index_or}
+use Rattle.std.specs.Prelude.{◌≡◌, ℕ, zero, suc, Bool, true, false, not, ◌&&◌, ◌||◌, List, [], ◌∷◌, Some, None, Option, slice_index_or}
 use Rattle.items.specs.declared.mode.Mode.{Mode}
 use Rattle.items.specs.declared.mode.Mode.TheVariants.{Look}
 use Rattle.marks.specs.declared.slices.Place.{Place}
-use Rattle.marks.specs.declared.slices.Place.TheVariants.{Held, Vacant, Nowhere}
+use Rattle.marks.specs.declared.slices.Place.TheVariants.{Held, Vacant}
 use Rattle.marks.specs.Marks.{MarkMeant, is_vacant, is_held_of, fresh_mark}
 
 -- whether some mark of a list passes a test
@@ -28,8 +28,8 @@ abbrev pub mark_at : List MarkMeant → ℕ → MarkMeant
 mark_at ms p = slice_index_or ms p (fresh_mark [] Look)
 
 -- what a place that was looked for is: that of the first held mark with these fields and this mode; that of a vacant
--- mark, of whichever, where none is held; or nowhere, where none is held and none is vacant
-abbrev pub Found : List MarkMeant → List ℕ → Mode → Place → Type 0
-Found ms fs mode (Held p) = is_first (is_held_of fs mode) ms p ≡ true
-Found ms fs mode (Vacant p) = (any_mark (is_held_of fs mode) ms ≡ false) × (passes_at is_vacant ms p ≡ true)
-Found ms fs mode Nowhere = (any_mark (is_held_of fs mode) ms ≡ false) × (any_mark is_vacant ms ≡ false)
+-- mark, of whichever, where none is held; or none, where none is held and none is vacant
+abbrev pub Found : List MarkMeant → List ℕ → Mode → Option Place → Type 0
+Found ms fs mode (Some (Held p)) = is_first (is_held_of fs mode) ms p ≡ true
+Found ms fs mode (Some (Vacant p)) = (any_mark (is_held_of fs mode) ms ≡ false) × (passes_at is_vacant ms p ≡ true)
+Found ms fs mode None = (any_mark (is_held_of fs mode) ms ≡ false) × (any_mark is_vacant ms ≡ false)

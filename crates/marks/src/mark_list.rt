@@ -56,7 +56,7 @@ impl<'a, I: Kind + Copy> MarkList<'a, I> {
     }
 
     // Finds a place for an item and a mode.
-    fn find(&self, item: &I, mode: Mode) -> Place
+    fn find(&self, item: &I, mode: Mode) -> Option<Place>
         ensures { Found (meant_list I.Kind.fields self.now) (I.Kind.fields item.now) mode result }
     {
         find_place(self.marks, item, mode)
@@ -68,17 +68,14 @@ impl<'a, I: Kind + Copy> MarkList<'a, I> {
         ensures step { HoldStep bay (I.Kind.fields item) mode (meant_list I.Kind.fields self.old) result (meant_list I.Kind.fields self.new) }
         ensures stays { self.new.marks.ghost_name ≡ self.old.marks.ghost_name }
     {
-        match self.find(&item, mode) {
-            Place::Held(place) => {
-                join_at(self.marks, place, bay);
-                true
-            }
-            Place::Vacant(place) => {
-                take_at(self.marks, place, bay, item, mode);
-                true
-            }
-            Place::Nowhere => false,
+        let Some(place) = self.find(&item, mode) else {
+            return false;
+        };
+        match place {
+            Place::Held(place) => join_at(self.marks, place, bay),
+            Place::Vacant(place) => take_at(self.marks, place, bay, item, mode),
         }
+        true
     }
 
     // Makes each bay in the set of takers hold as inherited every mark that the bay holds, either way.

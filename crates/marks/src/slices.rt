@@ -17,23 +17,20 @@ use items::{Kind, Mode};
 pub(crate) enum Place {
     Held(usize),
     Vacant(usize),
-    Nowhere,
 }
 
 // Finds the first held mark with the same item and mode, or else a vacant mark, or none.
-pub(crate) fn find_place<I: Kind + Copy>(marks: &[Mark<I>], item: &I, mode: Mode) -> Place
+pub(crate) fn find_place<I: Kind + Copy>(marks: &[Mark<I>], item: &I, mode: Mode) -> Option<Place>
     ensures { Found (meant_marks I.Kind.fields marks.now) (I.Kind.fields item.now) mode result }
 {
     'search: {
-        let mut spare = Place::Nowhere;
+        let mut spare: Option<Place> = None;
         for (i, mark) in marks.iter().enumerate() {
             if mark.is_of(item, mode) && !mark.is_vacant() {
-                break 'search Place::Held(i);
+                break 'search Some(Place::Held(i));
             }
-            if let Place::Nowhere = spare {
-                if mark.is_vacant() {
-                    spare = Place::Vacant(i);
-                }
+            if spare.is_none() && mark.is_vacant() {
+                spare = Some(Place::Vacant(i));
             }
         }
         spare

@@ -1,4 +1,3 @@
-use Rattle.std.proofs.Common.{refl}
 use Rattle.std.proofs.lemmas.List.{length-map}
 use Rattle.marks.specs.Marks.{meant_marks, is_vacant, is_held_of}
 use Rattle.marks.specs.Holding.{meant_list}
@@ -10,22 +9,19 @@ pub join_at-requires : goal.join_at-requires
 join_at-requires g c =
     let ms = meant_list g.I.Kind.fields c.args.self.now in
     let test = is_held_of (g.I.Kind.fields c.args.item) c.args.mode in
-    simp length-map at (passes_within test ms c.in-Held.place (first_passes test ms c.in-Held.place c.in-Held.ensures))
+    let first = rw c.in-Held.is at c.in-Some.ensures in
+    simp length-map at (passes_within test ms c.in-Held.place (first_passes test ms c.in-Held.place first))
 
 pub take_at-requires : goal.take_at-requires
 take_at-requires g c =
-    simp length-map at (passes_within is_vacant (meant_list g.I.Kind.fields c.args.self.now) c.in-Vacant.place c.in-Vacant.ensures.1)
+    let spare = rw c.in-Vacant.is at c.in-Some.ensures in
+    simp length-map at (passes_within is_vacant (meant_list g.I.Kind.fields c.args.self.now) c.in-Vacant.place spare.1)
 
-pub returns-in-Held : goal.returns-in-Held
-returns-in-Held g c =
-    record {
-      step = held_step c.args.bay (g.I.Kind.fields c.args.item) c.args.mode (meant_list g.I.Kind.fields c.args.self.now) (meant_marks g.I.Kind.fields c.join_at.new.marks) c.in-Held.place c.in-Held.ensures c.join_at.ensures;
-      stays = refl;
-    }
+pub returns-in-Held-clause-step : goal.returns-in-Held-clause-step
+returns-in-Held-clause-step g c =
+    held_step c.args.bay (g.I.Kind.fields c.args.item) c.args.mode (meant_list g.I.Kind.fields c.args.self.now) (meant_marks g.I.Kind.fields c.join_at.new.marks) c.in-Held.place (rw c.in-Held.is at c.in-Some.ensures) c.join_at.ensures
 
-pub returns-in-Vacant : goal.returns-in-Vacant
-returns-in-Vacant g c =
-    record {
-      step = vacant_step c.args.bay (g.I.Kind.fields c.args.item) c.args.mode (meant_list g.I.Kind.fields c.args.self.now) (meant_marks g.I.Kind.fields c.take_at.new.marks) c.in-Vacant.place c.in-Vacant.ensures.0 c.in-Vacant.ensures.1 c.take_at.ensures;
-      stays = refl;
-    }
+pub returns-in-Vacant-clause-step : goal.returns-in-Vacant-clause-step
+returns-in-Vacant-clause-step g c =
+    let spare = rw c.in-Vacant.is at c.in-Some.ensures in
+    vacant_step c.args.bay (g.I.Kind.fields c.args.item) c.args.mode (meant_list g.I.Kind.fields c.args.self.now) (meant_marks g.I.Kind.fields c.take_at.new.marks) c.in-Vacant.place spare.0 spare.1 c.take_at.ensures
