@@ -1,6 +1,7 @@
 // Marks: what the watch remembers of accesses, and which bays hold them.
 #![tactic(auto)]
 
+mod access;
 mod holders;
 mod mark;
 mod mark_list;

@@ -1,36 +1,28 @@
-// A mark: an item, a mode, the bays that hold it as own and the bays that hold it as inherited.
+// A mark: an access, the bays that hold it as own and the bays that hold it as inherited.
 ghost use Rattle.std.specs.Prelude.{◌≡◌};
 ghost use Rattle.items.specs.declared.mode.Mode.TheVariants.{Look};
-ghost use Rattle.marks.specs.Marks.{meant_mark, same_mode, is_vacant, is_of, holds_either, fresh_mark, vacated, joins, inherits, leaves, hands_on, reached};
+ghost use Rattle.marks.specs.Marks.{meant_mark, is_vacant, is_of, holds_either, fresh_mark, vacated, joins, inherits, leaves, hands_on, reached};
 
+use crate::access::Access;
 use crate::holders::{minus_bay, plus_all, plus_bay};
 use boards::has_bay;
 use items::{Kind, Mode};
 
-// A mark that no bay holds is vacant; its item and mode then mean nothing.
+// A mark that no bay holds is vacant; its access then means nothing.
 #[derive(Clone, Copy)]
 pub struct Mark<I> {
-    pub(crate) item: I,
-    pub(crate) mode: Mode,
+    pub(crate) access: Access<I>,
     pub(crate) own: u32,
     pub(crate) inherited: u32,
 }
 
-// Whether two modes are the same.
-fn same_mode(mode: Mode, other: Mode) -> bool
-    ensures { result ≡ same_mode mode other }
-{
-    mode == other
-}
-
 impl<I: Kind + Copy> Mark<I> {
-    // A mark with this item and mode that no bay holds.
-    fn fresh(item: I, mode: Mode) -> Mark<I>
-        ensures { meant_mark I.Kind.fields result ≡ fresh_mark (I.Kind.fields item) mode }
+    // A mark of this access that no bay holds.
+    fn fresh(access: Access<I>) -> Mark<I>
+        ensures { meant_mark I.Kind.fields result ≡ fresh_mark (I.Kind.fields access.item) access.mode }
     {
         Mark {
-            item,
-            mode,
+            access,
             own: 0,
             inherited: 0,
         }
@@ -40,7 +32,10 @@ impl<I: Kind + Copy> Mark<I> {
     pub fn vacant(item: I) -> Mark<I>
         ensures { meant_mark I.Kind.fields result ≡ fresh_mark (I.Kind.fields item) Look }
     {
-        Mark::fresh(item, Mode::Look)
+        Mark::fresh(Access {
+            item,
+            mode: Mode::Look,
+        })
     }
 
     // Whether no bay holds the mark.
@@ -51,10 +46,10 @@ impl<I: Kind + Copy> Mark<I> {
     }
 
     // Whether the mark has this item and mode.
-    pub(crate) fn is_of(&self, item: &I, mode: Mode) -> bool
-        ensures { result ≡ is_of (I.Kind.fields item.now) mode (meant_mark I.Kind.fields self.now) }
+    pub(crate) fn is_of(&self, access: &Access<I>) -> bool
+        ensures { result ≡ is_of (I.Kind.fields access.now.item) access.now.mode (meant_mark I.Kind.fields self.now) }
     {
-        self.item.same(item) && same_mode(self.mode, mode)
+        self.access.is_same(access)
     }
 
     // Whether a bay holds the mark, as own or as inherited.
@@ -64,18 +59,18 @@ impl<I: Kind + Copy> Mark<I> {
         has_bay(self.own, bay) || has_bay(self.inherited, bay)
     }
 
-    // A mark with this item and mode that one bay holds, as own.
-    pub(crate) fn taken(item: I, mode: Mode, bay: u8) -> Mark<I>
-        ensures { meant_mark I.Kind.fields result ≡ joins bay (fresh_mark (I.Kind.fields item) mode) }
+    // A mark of this access that one bay holds, as own.
+    pub(crate) fn taken(access: Access<I>, bay: u8) -> Mark<I>
+        ensures { meant_mark I.Kind.fields result ≡ joins bay (fresh_mark (I.Kind.fields access.item) access.mode) }
     {
-        Mark::fresh(item, mode).joined(bay)
+        Mark::fresh(access).joined(bay)
     }
 
-    // The mark when no bay holds it any more; its item and mode stay.
+    // The mark when no bay holds it any more; its access stays.
     pub(crate) fn vacated(self) -> Mark<I>
         ensures { meant_mark I.Kind.fields result ≡ vacated (meant_mark I.Kind.fields self) }
     {
-        Mark::fresh(self.item, self.mode)
+        Mark::fresh(self.access)
     }
 
     // The mark when a bay holds it as own too.

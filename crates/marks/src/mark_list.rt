@@ -7,6 +7,7 @@ ghost use Rattle.marks.specs.Steps.{HoldStep, all_inherited, all_left, all_hande
 ghost use Rattle.marks.specs.Against.{linked_by};
 ghost use Rattle.marks.specs.Places.{Found};
 
+use crate::access::Access;
 use crate::mark::Mark;
 use crate::slices::{
     Place, bays_against, count_held, find_place, hand_on_all, inherit_all, is_inherited, is_own,
@@ -55,11 +56,11 @@ impl<'a, I: Kind + Copy> MarkList<'a, I> {
         Ok(MarkList { marks })
     }
 
-    // Finds a place for an item and a mode.
-    fn find(&self, item: &I, mode: Mode) -> Option<Place>
-        ensures { Found (meant_list I.Kind.fields self.now) (I.Kind.fields item.now) mode result }
+    // Finds a place for an access.
+    fn find(&self, access: &Access<I>) -> Option<Place>
+        ensures { Found (meant_list I.Kind.fields self.now) (I.Kind.fields access.now.item) access.now.mode result }
     {
-        find_place(self.marks, item, mode)
+        find_place(self.marks, access)
     }
 
     // Makes the bay hold as own the first held mark with the item and mode, or else a vacant mark that is given both, and
@@ -68,12 +69,13 @@ impl<'a, I: Kind + Copy> MarkList<'a, I> {
         ensures step { HoldStep bay (I.Kind.fields item) mode (meant_list I.Kind.fields self.old) result (meant_list I.Kind.fields self.new) }
         ensures stays { self.new.marks.ghost_name ≡ self.old.marks.ghost_name }
     {
-        let Some(place) = self.find(&item, mode) else {
+        let access = Access { item, mode };
+        let Some(place) = self.find(&access) else {
             return false;
         };
         match place {
             Place::Held(place) => join_at(self.marks, place, bay),
-            Place::Vacant(place) => take_at(self.marks, place, bay, item, mode),
+            Place::Vacant(place) => take_at(self.marks, place, bay, access),
         }
         true
     }
@@ -107,7 +109,8 @@ impl<'a, I: Kind + Copy> MarkList<'a, I> {
     pub fn linked_by(&self, bay: u8, item: &I, mode: Mode) -> u32
         ensures { result ≡ linked_by I.Kind.overlapping conflicting bay (I.Kind.fields item.now) mode (meant_list I.Kind.fields self.now) }
     {
-        bays_against(self.marks, bay, item, mode)
+        let access = Access { item: *item, mode };
+        bays_against(self.marks, bay, &access)
     }
 
     // How many marks are held.
@@ -121,13 +124,15 @@ impl<'a, I: Kind + Copy> MarkList<'a, I> {
     pub fn holds_own(&self, bay: u8, item: &I, mode: Mode) -> bool
         ensures { result ≡ holds_own (meant_list I.Kind.fields self.now) bay (I.Kind.fields item.now) mode }
     {
-        is_own(self.marks, bay, item, mode)
+        let access = Access { item: *item, mode };
+        is_own(self.marks, bay, &access)
     }
 
     // Whether the bay holds the item and mode as inherited.
     pub fn holds_inherited(&self, bay: u8, item: &I, mode: Mode) -> bool
         ensures { result ≡ holds_inherited (meant_list I.Kind.fields self.now) bay (I.Kind.fields item.now) mode }
     {
-        is_inherited(self.marks, bay, item, mode)
+        let access = Access { item: *item, mode };
+        is_inherited(self.marks, bay, &access)
     }
 }

@@ -7,26 +7,27 @@ ghost use Rattle.marks.specs.Holding.{holds_own, holds_inherited, held_count};
 ghost use Rattle.marks.specs.Steps.{all_inherited, all_left, all_handed_on};
 ghost use Rattle.marks.specs.Against.{linked_by};
 
+use crate::access::Access;
 use crate::holders::plus_all;
 use crate::mark::Mark;
 use boards::has_bay;
-use items::{Kind, Mode};
+use items::Kind;
 
-// A place in the list for an item and a mode.
+// A place in the list for an access.
 #[derive(Clone, Copy)]
 pub(crate) enum Place {
     Held(usize),
     Vacant(usize),
 }
 
-// Finds the first held mark with the same item and mode, or else a vacant mark, or none.
-pub(crate) fn find_place<I: Kind + Copy>(marks: &[Mark<I>], item: &I, mode: Mode) -> Option<Place>
-    ensures { Found (meant_marks I.Kind.fields marks.now) (I.Kind.fields item.now) mode result }
+// Finds the first held mark of the same access, or else a vacant mark, or none.
+pub(crate) fn find_place<I: Kind + Copy>(marks: &[Mark<I>], access: &Access<I>) -> Option<Place>
+    ensures { Found (meant_marks I.Kind.fields marks.now) (I.Kind.fields access.now.item) access.now.mode result }
 {
     'search: {
         let mut spare: Option<Place> = None;
         for (i, mark) in marks.iter().enumerate() {
-            if mark.is_of(item, mode) && !mark.is_vacant() {
+            if mark.is_of(access) && !mark.is_vacant() {
                 break 'search Some(Place::Held(i));
             }
             if spare.is_none() && mark.is_vacant() {
@@ -37,24 +38,24 @@ pub(crate) fn find_place<I: Kind + Copy>(marks: &[Mark<I>], item: &I, mode: Mode
     }
 }
 
-// Whether a bay holds the item and mode as own.
-pub(crate) fn is_own<I: Kind + Copy>(marks: &[Mark<I>], bay: u8, item: &I, mode: Mode) -> bool
-    ensures { result ≡ holds_own (meant_marks I.Kind.fields marks.now) bay (I.Kind.fields item.now) mode }
+// Whether a bay holds the access as own.
+pub(crate) fn is_own<I: Kind + Copy>(marks: &[Mark<I>], bay: u8, access: &Access<I>) -> bool
+    ensures { result ≡ holds_own (meant_marks I.Kind.fields marks.now) bay (I.Kind.fields access.now.item) access.now.mode }
 {
     for mark in marks {
-        if mark.is_of(item, mode) && has_bay(mark.own, bay) {
+        if mark.is_of(access) && has_bay(mark.own, bay) {
             return true;
         }
     }
     false
 }
 
-// Whether a bay holds the item and mode as inherited.
-pub(crate) fn is_inherited<I: Kind + Copy>(marks: &[Mark<I>], bay: u8, item: &I, mode: Mode) -> bool
-    ensures { result ≡ holds_inherited (meant_marks I.Kind.fields marks.now) bay (I.Kind.fields item.now) mode }
+// Whether a bay holds the access as inherited.
+pub(crate) fn is_inherited<I: Kind + Copy>(marks: &[Mark<I>], bay: u8, access: &Access<I>) -> bool
+    ensures { result ≡ holds_inherited (meant_marks I.Kind.fields marks.now) bay (I.Kind.fields access.now.item) access.now.mode }
 {
     for mark in marks {
-        if mark.is_of(item, mode) && has_bay(mark.inherited, bay) {
+        if mark.is_of(access) && has_bay(mark.inherited, bay) {
             return true;
         }
     }
@@ -74,13 +75,13 @@ pub(crate) fn count_held<I: Kind + Copy>(marks: &[Mark<I>]) -> usize
     count
 }
 
-// The bays that hold a mark against this item and mode: either way, but the given bay only as inherited.
-pub(crate) fn bays_against<I: Kind + Copy>(marks: &[Mark<I>], bay: u8, item: &I, mode: Mode) -> u32
-    ensures { result ≡ linked_by I.Kind.overlapping conflicting bay (I.Kind.fields item.now) mode (meant_marks I.Kind.fields marks.now) }
+// The bays that hold a mark against this access: either way, but the given bay only as inherited.
+pub(crate) fn bays_against<I: Kind + Copy>(marks: &[Mark<I>], bay: u8, access: &Access<I>) -> u32
+    ensures { result ≡ linked_by I.Kind.overlapping conflicting bay (I.Kind.fields access.now.item) access.now.mode (meant_marks I.Kind.fields marks.now) }
 {
     let mut bays = 0;
     for mark in marks {
-        if item.overlaps(&mark.item) && mode.conflicts(mark.mode) {
+        if access.conflicts(&mark.access) {
             bays = plus_all(bays, mark.reached_from(bay));
         }
     }
@@ -131,16 +132,15 @@ pub(crate) fn join_at<I: Kind + Copy>(marks: &mut [Mark<I>], place: usize, bay: 
     marks[place] = marks[place].joined(bay);
 }
 
-// Makes the mark at a place one with this item and mode, which the bay alone holds, as own.
+// Makes the mark at a place one of this access, which the bay alone holds, as own.
 pub(crate) fn take_at<I: Kind + Copy>(
     marks: &mut [Mark<I>],
     place: usize,
     bay: u8,
-    item: I,
-    mode: Mode,
+    access: Access<I>,
 )
     requires { place < length marks.old }
-    ensures { meant_marks I.Kind.fields marks.new ≡ slice_set (meant_marks I.Kind.fields marks.old) place (joins bay (fresh_mark (I.Kind.fields item) mode)) }
+    ensures { meant_marks I.Kind.fields marks.new ≡ slice_set (meant_marks I.Kind.fields marks.old) place (joins bay (fresh_mark (I.Kind.fields access.item) access.mode)) }
 {
-    marks[place] = Mark::taken(item, mode, bay);
+    marks[place] = Mark::taken(access, bay);
 }

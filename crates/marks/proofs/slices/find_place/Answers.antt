@@ -9,7 +9,7 @@ use Rattle.marks.proofs.slices.find_place.Goals.{else-is_of-via-then-is_of+else-
 pub loop-i-preserved : goal.loop-i-preserved
 loop-i-preserved g c =
     let f = meant_mark g.I.Kind.fields in let ms = meant_marks g.I.Kind.fields c.args.marks.now in
-    let test = is_held_of (g.I.Kind.fields c.args.item.now) c.args.mode in
+    let test = is_held_of (g.I.Kind.fields c.args.access.now.item) c.args.access.now.mode in
     let more = any_more f c.args.marks.now c.loop-i.i c.index-marks-i.result c.loop-i-test.true c.index-marks-i.is in
     let held = more test in let before = c.loop-i.invariant.0 in (
       elim c.else-is_of.branch [
@@ -32,8 +32,8 @@ loop-i-preserved g c =
 
 pub returns-then-not-is_vacant : goal.returns-then-not-is_vacant
 returns-then-not-is_vacant g c =
-    first_here (meant_mark g.I.Kind.fields) c.args.marks.now c.loop-i.i c.index-marks-i.result c.loop-i-test.true c.index-marks-i.is (is_held_of (g.I.Kind.fields c.args.item.now) c.args.mode) c.loop-i.invariant.0 (let a = c.if-is_of.ensures in let b = c.if-not-is_vacant.ensures in grind arith)
+    first_here (meant_mark g.I.Kind.fields) c.args.marks.now c.loop-i.i c.index-marks-i.result c.loop-i-test.true c.index-marks-i.is (is_held_of (g.I.Kind.fields c.args.access.now.item) c.args.access.now.mode) c.loop-i.invariant.0 (let a = c.if-is_of.ensures in let b = c.if-not-is_vacant.ensures in grind arith)
 
 pub returns-after-loop-i : goal.returns-after-loop-i
 returns-after-loop-i g c =
-    found_at_end (meant_marks g.I.Kind.fields c.args.marks.now) (g.I.Kind.fields c.args.item.now) c.args.mode c.loop-i.i (simp length-map c.loop-i-test.false) c.loop-i.spare c.loop-i.invariant
+    found_at_end (meant_marks g.I.Kind.fields c.args.marks.now) (g.I.Kind.fields c.args.access.now.item) c.args.access.now.mode c.loop-i.i (simp length-map c.loop-i-test.false) c.loop-i.spare c.loop-i.invariant

@@ -6,4 +6,4 @@ use Rattle.marks.proofs.slices.is_inherited.Given as goal
 
 abbrev pub invariant-loop-mark : goal.invariant-loop-mark
 invariant-loop-mark g l =
-    any_mark (λ m. is_of (g.I.Kind.fields l.item) l.mode m && bit m.inherited l.bay) (take l.mark-index (meant_marks g.I.Kind.fields l.marks)) ≡ false
+    any_mark (λ m. is_of (g.I.Kind.fields l.access.item) l.access.mode m && bit m.inherited l.bay) (take l.mark-index (meant_marks g.I.Kind.fields l.marks)) ≡ false
