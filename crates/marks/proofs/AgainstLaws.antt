@@ -1,11 +1,11 @@
 -- Which bays an access links, by the two relations alone. Assumes nothing.
 use Rattle.std.proofs.Common.{◌≡◌, ℕ, ◌<◌, Bool, true, false, not, ◌&&◌, ◌||◌, eqb, List, [], ◌∷◌, Decides, sym, refl, ap, ◌∙◌, ap₂, ⊎_elim, arith}
+use Rattle.std.specs.List.{list_any}
 use Rattle.std.proofs.lemmas.Bool.{and_from, and_parts, both_ways, lt-ltb, or_cases, or_left, or_right}
 use Rattle.items.specs.declared.mode.Mode.{Mode}
 use Rattle.boards.specs.BaySets.{bit}
 use Rattle.boards.proofs.BitLaws.{bit_number}
 use Rattle.marks.specs.Marks.{MarkMeant, is_of, reached}
-use Rattle.marks.specs.Places.{any_mark}
 use Rattle.marks.specs.Holding.{holds_own, holds_inherited}
 use Rattle.marks.specs.Against.{is_against, holds_against, linked_by}
 use Rattle.marks.proofs.SameLaws.{access_same, access_equal}
@@ -32,7 +32,7 @@ module _ (overlapping : List ℕ → List ℕ → Bool) (conflicting : Mode → 
       (m.fields, m.mode, parts.0, first (is_of m.fields m.mode m) (bit m.inherited k) (not (eqb k bay)) (bit m.own k) (holds_inherited ms k m.fields m.mode) (holds_own ms k m.fields m.mode) (access_same m.fields m.mode) (sym (bit_reached k low bay m) ∙ parts.1)))
       (λ there. let s = held_against ms there in
       (s.0, s.1, s.2, later (is_of s.0 s.1 m && bit m.inherited k) (not (eqb k bay)) (is_of s.0 s.1 m && bit m.own k) (holds_inherited ms k s.0 s.1) (holds_own ms k s.0 s.1) s.3))
-      (or_cases (test m) (any_mark test ms) e)
+      (or_cases (test m) (list_any test ms) e)
     where
       first : (i h n o x y : Bool) → i ≡ true → (h || (n && o)) ≡ true → (((i && h) || x) || (n && ((i && o) || y))) ≡ true
       first i h n o x y e s = grind arith

@@ -1,6 +1,6 @@
 -- Held marks stay told apart, and only bays hold them, after every call. Assumes nothing.
 use Rattle.std.proofs.Common.{◌≡◌, ℕ, zero, suc, ◌^◌, ◌<◌, Bool, true, false, not, ◌&&◌, ◌||◌, List, [], ◌∷◌, map, set, sym, refl, ap, ap₂, ⊎_elim, arith}
-use Rattle.std.specs.List.{AllZip}
+use Rattle.std.specs.List.{AllZip, list_any}
 use Rattle.std.proofs.ByRecursion.{All-map, All-set, All-weaker}
 use Rattle.std.proofs.lemmas.Bool.{and_from, and_parts, and_right, both_ways, cases_Bool, cond_both, or_cases, or_parts, or_right}
 use Rattle.std.proofs.lemmas.Bool.Decides.{nat_tests}
@@ -9,7 +9,7 @@ use Rattle.boards.specs.BaySets.{with_bay, without_bay, in_either}
 use Rattle.boards.proofs.BitLaws.{bit_zero, number_below, number_from_bits}
 use Rattle.marks.specs.Holders.{minus_bay, plus_all}
 use Rattle.marks.specs.Marks.{MarkMeant, same_access, is_vacant, is_of, is_held_of, holds_either, fresh_mark, vacated, joins, inherits, leaves}
-use Rattle.marks.specs.Places.{any_mark, passes_at}
+use Rattle.marks.specs.Places.{passes_at}
 use Rattle.marks.specs.Steps.{first_joined, HoldStep, all_inherited, all_left, all_handed_on}
 use Rattle.marks.specs.Apart.{told_apart, OnlyBays}
 use Rattle.marks.proofs.SameLaws.{access_comm}
@@ -43,7 +43,7 @@ held_before gs other m n k e =
     let same : is_of gs other n ≡ is_of gs other m = ap₂ (λ xs mode. same_access xs mode gs other) k.fields k.mode in
     ⊎_elim (λ t. absurd (let v = k.vacant t in grind arith)) (λ f. grind arith) (cases_Bool (is_vacant m))
 
-any_before : (gs : List ℕ) (other : Mode) (ms ns : List MarkMeant) → AllZip Kept ms ns → any_mark (is_held_of gs other) ms ≡ false → any_mark (is_held_of gs other) ns ≡ false
+any_before : (gs : List ℕ) (other : Mode) (ms ns : List MarkMeant) → AllZip Kept ms ns → list_any (is_held_of gs other) ms ≡ false → list_any (is_held_of gs other) ns ≡ false
 any_before gs other [] [] ks e = refl
 any_before gs other [] (n ∷ ns) ks e = absurd ks
 any_before gs other (m ∷ ms) [] ks e = absurd ks
@@ -57,17 +57,14 @@ kept_apart [] (n ∷ ns) ks e = absurd ks
 kept_apart (m ∷ ms) [] ks e = absurd ks
 kept_apart (m ∷ ms) (n ∷ ns) ks e =
     let k = ks.0 in let rest = kept_apart ms ns ks.1 (grind arith) in
-    let same : any_mark (is_held_of n.fields n.mode) ns ≡ any_mark (is_held_of m.fields m.mode) ns = ap₂ (λ xs mode. any_mark (is_held_of xs mode) ns) k.fields k.mode in
+    let same : list_any (is_held_of n.fields n.mode) ns ≡ list_any (is_held_of m.fields m.mode) ns = ap₂ (λ xs mode. list_any (is_held_of xs mode) ns) k.fields k.mode in
     ⊎_elim (λ t. let v = k.vacant t in grind arith)
     (λ t. let none = any_before m.fields m.mode ms ns ks.1 (grind arith) in grind arith)
-    (or_cases (is_vacant m) (not (any_mark (is_held_of m.fields m.mode) ms)) (grind arith))
+    (or_cases (is_vacant m) (not (list_any (is_held_of m.fields m.mode) ms)) (grind arith))
 
 -- the sets of a vacant mark stay empty
 minus_none : (bay : ℕ) → minus_bay 0 bay ≡ 0
 minus_none bay = sym (number_from_bits (without_bay 0 bay) 32 0 (omega arith) (λ k l. let none = bit_zero k in grind arith))
-
-pub vacated_kept : (m : MarkMeant) → Kept m (vacated m)
-vacated_kept m = record { fields = refl; mode = refl; vacant = λ e. refl }
 
 pub inherits_kept : (bay takers : ℕ) (m : MarkMeant) → Kept m (inherits bay takers m)
 inherits_kept bay takers m =
@@ -110,19 +107,19 @@ module _ (bay : ℕ) (fs : List ℕ) (mode : Mode) where
   still_apart vacant same turned fresh before after e new t a = grind arith
 
   -- a mark that was vacant is given fields and mode that none is held with
-  apart_set : (ms : List MarkMeant) (p : ℕ) → passes_at is_vacant ms p ≡ true → any_mark (is_held_of fs mode) ms ≡ false → told_apart ms ≡ true → told_apart (set ms p (joins bay (fresh_mark fs mode))) ≡ true
+  apart_set : (ms : List MarkMeant) (p : ℕ) → passes_at is_vacant ms p ≡ true → list_any (is_held_of fs mode) ms ≡ false → told_apart ms ≡ true → told_apart (set ms p (joins bay (fresh_mark fs mode))) ≡ true
   apart_set [] p v new e = absurd (both_ways false refl v)
   apart_set (m ∷ ms) zero v new e =
-      let parts = and_parts (is_vacant m || not (any_mark (is_held_of m.fields m.mode) ms)) (told_apart ms) e in
-      let none = (or_parts (is_held_of fs mode m) (any_mark (is_held_of fs mode) ms) new).1 in
+      let parts = and_parts (is_vacant m || not (list_any (is_held_of m.fields m.mode) ms)) (told_apart ms) e in
+      let none = (or_parts (is_held_of fs mode m) (list_any (is_held_of fs mode) ms) new).1 in
       and_from _ _ (or_right (is_vacant (joins bay (fresh_mark fs mode))) _ (ap not none)) parts.1
   apart_set (m ∷ ms) (suc p) v new e =
       let own = is_held_of m.fields m.mode in let fresh = joins bay (fresh_mark fs mode) in
-      let parts = and_parts (is_vacant m || not (any_mark own ms)) (told_apart ms) e in
-      let none = or_parts (is_held_of fs mode m) (any_mark (is_held_of fs mode) ms) new in
+      let parts = and_parts (is_vacant m || not (list_any own ms)) (told_apart ms) e in
+      let none = or_parts (is_held_of fs mode m) (list_any (is_held_of fs mode) ms) new in
       let after = any_set own ms p fresh is_vacant v (λ n t. held_not_vacant m.fields m.mode n t) in
       and_from _ _
-      (still_apart (is_vacant m) (is_of fs mode m) (is_of m.fields m.mode fresh) (not (is_vacant fresh)) (any_mark own ms) (any_mark own (set ms p fresh)) parts.0 none.0 (access_comm m.fields m.mode fs mode) after)
+      (still_apart (is_vacant m) (is_of fs mode m) (is_of m.fields m.mode fresh) (not (is_vacant fresh)) (list_any own ms) (list_any own (set ms p fresh)) parts.0 none.0 (access_comm m.fields m.mode fs mode) after)
       (apart_set ms p v none.1 parts.1)
 
   pub hold_apart : (ms after : List MarkMeant) (was-done : Bool) → HoldStep bay fs mode ms was-done after → told_apart ms ≡ true → told_apart after ≡ true

@@ -1,60 +1,31 @@
 -- How many marks are held, and which fields and mode. Assumes nothing.
-use Rattle.std.proofs.Common.{◌≡◌, ℕ, zero, suc, ◌^◌, ◌<◌, ◌≤◌, Bool, true, false, cond, not, ◌&&◌, ◌||◌, eqb, ltb, ◌⊎◌, List, [], ◌∷◌, length, set, Decides, sym, refl, ap, ◌∙◌, inl, inr, ⊎_elim, arith}
-use Rattle.std.proofs.lemmas.Bool.{and_from, and_parts, both_ways, cases_Bool, cases_lt, cond_both, cond-true, cond-false, not-true, or_cases, or_left, or_right}
+use Rattle.std.proofs.Common.{◌≡◌, ℕ, zero, suc, ◌^◌, ◌<◌, ◌≤◌, Bool, true, false, cond, not, ◌&&◌, ◌||◌, eqb, ltb, ◌⊎◌, List, [], ◌∷◌, length, Decides, sym, refl, ap, ◌∙◌, inl, inr, ⊎_elim, arith}
+use Rattle.std.specs.List.{list_any}
+use Rattle.std.proofs.lemmas.List.Sums.{count_by-le-length, sum_by-cons}
+use Rattle.std.proofs.lemmas.Bool.{and_from, and_parts, both_ways, cases_Bool, cases_lt, not-true, or_cases, or_left, or_right}
 use Rattle.std.proofs.lemmas.Bool.Decides.{nat_tests}
 use Rattle.items.specs.declared.mode.Mode.{Mode}
 use Rattle.boards.specs.BaySets.{bit}
 use Rattle.boards.proofs.BitLaws.{bit_zero, number_from_bits}
-use Rattle.marks.specs.Marks.{MarkMeant, is_vacant, is_of, is_held_of, fresh_mark, joins}
-use Rattle.marks.specs.Places.{any_mark, passes_at}
+use Rattle.marks.specs.Marks.{MarkMeant, is_vacant, is_of, is_held_of}
 use Rattle.marks.specs.Holding.{holds_own, holds_inherited, held_count}
-use Rattle.marks.specs.Steps.{first_joined, HoldStep}
 use Rattle.marks.specs.Apart.{OnlyBays}
 use Rattle.marks.proofs.AnyLaws.{any_weaker}
 use Rattle.marks.proofs.HoldsLaws.{vacant_own, vacant_inherited}
-use Rattle.marks.proofs.HoldEffects.{hold_cases, joined_held}
+
+-- one mark more
+pub count_cons : (m : MarkMeant) (ms : List MarkMeant) → held_count (m ∷ ms) ≡ cond (is_vacant m) (held_count ms) (suc (held_count ms))
+count_cons m ms = let sum = sum_by-cons (λ n. cond (not (is_vacant n)) 1 0) m ms in grind arith
 
 -- some mark is vacant exactly when fewer are held than there are
 pub count_within : (ms : List MarkMeant) → held_count ms ≤ length ms
-count_within [] = omega arith
-count_within (m ∷ ms) = let rest = count_within ms in grind arith
+count_within = count_by-le-length (λ m. not (is_vacant m))
 
-pub vacant_when_fewer : (ms : List MarkMeant) → any_mark is_vacant ms ≡ ltb (held_count ms) (length ms)
+pub vacant_when_fewer : (ms : List MarkMeant) → list_any is_vacant ms ≡ ltb (held_count ms) (length ms)
 vacant_when_fewer [] = refl
 vacant_when_fewer (m ∷ ms) =
-    let rest = vacant_when_fewer ms in let within = count_within ms in
-    cond_both (is_vacant m) (held_count ms) (suc (held_count ms)) (λ n. (is_vacant m || any_mark is_vacant ms) ≡ ltb n (length (m ∷ ms)))
-    (λ e. grind (arith, nat_tests))
-    (λ e. grind (arith, nat_tests))
-
--- a hold by a bay: one mark more is held where none was held with the fields and mode
-module _ (bay : ℕ) (low : bay < 32) (fs : List ℕ) (mode : Mode) where
-  count_first : (ms : List MarkMeant) → held_count (first_joined bay fs mode ms) ≡ held_count ms
-  count_first [] = refl
-  count_first (m ∷ ms) =
-      cond_both (is_held_of fs mode m) (joins bay m ∷ ms) (m ∷ first_joined bay fs mode ms) (λ l. held_count l ≡ held_count (m ∷ ms))
-      (λ e. let held : is_vacant m ≡ false = not-vacant e in let after = joined_held bay low m in cond-false (is_vacant (joins bay m)) _ _ after ∙ sym (cond-false (is_vacant m) _ _ held))
-      (λ e. let rest = count_first ms in ap (λ n. cond (is_vacant m) n (suc n)) rest)
-    where
-      not-vacant : is_held_of fs mode m ≡ true → is_vacant m ≡ false
-      not-vacant e = let parts = and_parts (is_of fs mode m) (not (is_vacant m)) e in let part = parts.1 in grind arith
-
-  count_set : (ms : List MarkMeant) (p : ℕ) → passes_at is_vacant ms p ≡ true → held_count (set ms p (joins bay (fresh_mark fs mode))) ≡ suc (held_count ms)
-  count_set [] p v = absurd (both_ways false refl v)
-  count_set (m ∷ ms) zero v =
-      cond-false (is_vacant (joins bay (fresh_mark fs mode))) _ _ (joined_held bay low (fresh_mark fs mode)) ∙ ap suc (sym (cond-true (is_vacant m) _ _ v))
-  count_set (m ∷ ms) (suc p) v = let rest = count_set ms p v in ap (λ n. cond (is_vacant m) n (suc n)) rest ∙ pull (is_vacant m) (held_count ms)
-    where
-      pull : (b : Bool) (n : ℕ) → cond b (suc n) (suc (suc n)) ≡ suc (cond b n (suc n))
-      pull true n = refl
-      pull false n = refl
-
-  pub hold_count : (ms after : List MarkMeant) → HoldStep bay fs mode ms true after → held_count after ≡ cond (any_mark (is_held_of fs mode) ms) (held_count ms) (suc (held_count ms))
-  hold_count ms after h =
-      hold_cases bay fs mode ms after (λ l. held_count l ≡ cond (any_mark (is_held_of fs mode) ms) (held_count ms) (suc (held_count ms))) true h
-      (λ z some. count_first ms ∙ sym (cond-true (any_mark (is_held_of fs mode) ms) _ _ some))
-      (λ z new p v. count_set ms p v ∙ sym (cond-false (any_mark (is_held_of fs mode) ms) _ _ new))
-      (λ z. absurd (both_ways true z refl))
+    let count = count_cons m ms in let rest = vacant_when_fewer ms in let within = count_within ms in
+    grind (arith, nat_tests)
 
 -- fields and mode are held exactly when some bay holds them, as own or as inherited
 some_below : (f : ℕ → Bool) (n : ℕ) → ((k : ℕ) → k < n → f k ≡ false) ⊎ ((k : ℕ) × (k < n) × (f k ≡ true))
@@ -90,7 +61,7 @@ module _ (gs : List ℕ) (other : Mode) where
           let s = some_bay m.inherited narrow.1 (grind arith) in (s.0, s.1, or_right (bit m.own s.0) _ s.2)
       at (inr some) = let s = some_bay m.own narrow.0 some in (s.0, s.1, or_left _ (bit m.inherited s.0) s.2)
 
-  held_holder : (ms : List MarkMeant) → OnlyBays ms → any_mark (is_held_of gs other) ms ≡ true → Holder ms
+  held_holder : (ms : List MarkMeant) → OnlyBays ms → list_any (is_held_of gs other) ms ≡ true → Holder ms
   held_holder [] narrow e = absurd (both_ways false refl e)
   held_holder (m ∷ ms) narrow e =
       ⊎_elim
@@ -98,7 +69,7 @@ module _ (gs : List ℕ) (other : Mode) where
       (s.0, s.1, join (is_of gs other m) (bit m.own s.0) (bit m.inherited s.0) (holds_own ms s.0 gs other) (holds_inherited ms s.0 gs other) parts.0 s.2))
       (λ there. let s = held_holder ms narrow.1 there in
       (s.0, s.1, later (is_of gs other m && bit m.own s.0) (is_of gs other m && bit m.inherited s.0) (holds_own ms s.0 gs other) (holds_inherited ms s.0 gs other) s.2))
-      (or_cases (is_held_of gs other m) (any_mark (is_held_of gs other) ms) e)
+      (or_cases (is_held_of gs other m) (list_any (is_held_of gs other) ms) e)
     where
       join : (i o h x y : Bool) → i ≡ true → (o || h) ≡ true → (((i && o) || x) || ((i && h) || y)) ≡ true
       join i o h x y e s = grind arith
@@ -106,7 +77,7 @@ module _ (gs : List ℕ) (other : Mode) where
       later : (o h x y : Bool) → (x || y) ≡ true → ((o || x) || (h || y)) ≡ true
       later o h x y s = grind arith
 
-  holder_held : (ms : List MarkMeant) (b : ℕ) → (holds_own ms b gs other || holds_inherited ms b gs other) ≡ true → any_mark (is_held_of gs other) ms ≡ true
+  holder_held : (ms : List MarkMeant) (b : ℕ) → (holds_own ms b gs other || holds_inherited ms b gs other) ≡ true → list_any (is_held_of gs other) ms ≡ true
   holder_held ms b e =
       ⊎_elim (any_weaker (λ m. is_of gs other m && bit m.own b) (is_held_of gs other) (λ m t. at m (bit m.own b) (vacant_own m b) t) ms)
       (any_weaker (λ m. is_of gs other m && bit m.inherited b) (is_held_of gs other) (λ m t. at m (bit m.inherited b) (vacant_inherited m b) t) ms)
@@ -117,5 +88,5 @@ module _ (gs : List ℕ) (other : Mode) where
           let parts = and_parts (is_of gs other m) has t in
           and_from _ _ parts.0 (⊎_elim (λ v. absurd (both_ways has (none v) parts.1)) (λ f. ap not f) (cases_Bool (is_vacant m)))
 
-  pub held_decides : (ms : List MarkMeant) → OnlyBays ms → Decides (any_mark (is_held_of gs other) ms) (Holder ms)
+  pub held_decides : (ms : List MarkMeant) → OnlyBays ms → Decides (list_any (is_held_of gs other) ms) (Holder ms)
   held_decides ms narrow = (held_holder ms narrow, λ s. holder_held ms s.0 s.2)

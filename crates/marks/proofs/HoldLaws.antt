@@ -1,9 +1,10 @@
 -- A hold, made at the place that was found. Assumes nothing.
 use Rattle.std.proofs.Common.{◌≡◌, ℕ, zero, suc, true, false, List, [], ◌∷◌, set, sym, refl, ap, ◌∙◌, arith}
+use Rattle.std.specs.List.{list_any}
 use Rattle.std.proofs.lemmas.Bool.{cond-true, cond-false}
 use Rattle.items.specs.declared.mode.Mode.{Mode}
 use Rattle.marks.specs.Marks.{MarkMeant, is_vacant, is_held_of, fresh_mark, joins}
-use Rattle.marks.specs.Places.{any_mark, is_first, passes_at, mark_at}
+use Rattle.marks.specs.Places.{is_first, passes_at, mark_at}
 use Rattle.marks.specs.Steps.{first_joined, HoldStep}
 use Rattle.marks.proofs.AnyLaws.{first_passes, passes_any}
 
@@ -17,10 +18,10 @@ module _ (bay : ℕ) (fs : List ℕ) (mode : Mode) where
   module _ (ms after : List MarkMeant) (p : ℕ) where
     pub held_step : is_first (is_held_of fs mode) ms p ≡ true → after ≡ set ms p (joins bay (mark_at ms p)) → HoldStep bay fs mode ms true after
     held_step e a =
-        let some : any_mark (is_held_of fs mode) ms ≡ true = passes_any (is_held_of fs mode) ms p (first_passes (is_held_of fs mode) ms p e) in
+        let some : list_any (is_held_of fs mode) ms ≡ true = passes_any (is_held_of fs mode) ms p (first_passes (is_held_of fs mode) ms p e) in
         record { answer = grind arith; marks = rw some (a ∙ joined_first ms p e) }
 
-    pub vacant_step : any_mark (is_held_of fs mode) ms ≡ false → passes_at is_vacant ms p ≡ true → after ≡ set ms p (joins bay (fresh_mark fs mode)) → HoldStep bay fs mode ms true after
+    pub vacant_step : list_any (is_held_of fs mode) ms ≡ false → passes_at is_vacant ms p ≡ true → after ≡ set ms p (joins bay (fresh_mark fs mode)) → HoldStep bay fs mode ms true after
     vacant_step e v a =
-        let some : any_mark is_vacant ms ≡ true = passes_any is_vacant ms p v in
+        let some : list_any is_vacant ms ≡ true = passes_any is_vacant ms p v in
         record { answer = grind arith; marks = rw (e, some) (p, v, a) }

@@ -1,11 +1,12 @@
 -- Where held marks are told apart, they are as many as the accesses that are held, listed once each. Assumes nothing.
 use Rattle.std.proofs.Common.{◌≡◌, ℕ, suc, Bool, true, false, cond, not, ◌&&◌, ◌||◌, ◌⊎◌, List, [], ◌∷◌, length, sym, refl, ap, ◌∙◌, ap₂, inl, inr, arith}
-use Rattle.std.proofs.lemmas.Bool.{and_from, and_parts, both_ways, cases_Bool, cond_both, cond-true, cond-false, not-true}
+use Rattle.std.specs.List.{list_any}
+use Rattle.std.proofs.lemmas.Bool.{and_from, and_parts, both_ways, cases_Bool, cond_both, not-true}
 use Rattle.items.specs.declared.mode.Mode.{Mode}
 use Rattle.marks.specs.Marks.{MarkMeant, same_access, is_vacant, is_of, is_held_of}
-use Rattle.marks.specs.Places.{any_mark}
 use Rattle.marks.specs.Holding.{held_count}
 use Rattle.marks.specs.Apart.{told_apart, is_listed, listed_once}
+use Rattle.marks.proofs.CountLaws.{count_cons}
 use Rattle.marks.proofs.SameLaws.{access_same, access_equal, access_like, access_comm}
 
 -- a list of accesses without one access
@@ -68,15 +69,15 @@ none_listed (a ∷ rest) e =
 
 -- the list has each held access, and no other
 abbrev pub Lists : List (List ℕ × Mode) → List MarkMeant → Type 0
-Lists keys ms = (gs : List ℕ) (other : Mode) → is_listed keys gs other ≡ any_mark (is_held_of gs other) ms
+Lists keys ms = (gs : List ℕ) (other : Mode) → is_listed keys gs other ≡ list_any (is_held_of gs other) ms
 
 -- a list that lists each held access once is as long as there are held marks
 pub listed_count : (ms : List MarkMeant) (keys : List (List ℕ × Mode)) → told_apart ms ≡ true → listed_once keys ≡ true → Lists keys ms → length keys ≡ held_count ms
 listed_count [] keys apart once same = none_listed keys same
-listed_count (m ∷ ms) keys apart once same = at (λ fewer. listed_count ms fewer (and_parts (is_vacant m || not (any_mark (is_held_of m.fields m.mode) ms)) (told_apart ms) apart).1) (cases_Bool (is_vacant m))
+listed_count (m ∷ ms) keys apart once same = at (λ fewer. listed_count ms fewer (and_parts (is_vacant m || not (list_any (is_held_of m.fields m.mode) ms)) (told_apart ms) apart).1) (cases_Bool (is_vacant m))
   where
-    now-or-later : (is_vacant m || not (any_mark (is_held_of m.fields m.mode) ms)) ≡ true
-    now-or-later = (and_parts (is_vacant m || not (any_mark (is_held_of m.fields m.mode) ms)) (told_apart ms) apart).0
+    now-or-later : (is_vacant m || not (list_any (is_held_of m.fields m.mode) ms)) ≡ true
+    now-or-later = (and_parts (is_vacant m || not (list_any (is_held_of m.fields m.mode) ms)) (told_apart ms) apart).0
 
     vacant : (i v l a : Bool) → v ≡ true → l ≡ ((i && not v) || a) → l ≡ a
     vacant i v l a e s = grind arith
@@ -85,25 +86,27 @@ listed_count (m ∷ ms) keys apart once same = at (λ fewer. listed_count ms few
     held true v l a e s n = sym (n refl)
     held false v l a e s n = grind arith
 
-    none-later : is_vacant m ≡ false → (gs : List ℕ) (other : Mode) → is_of gs other m ≡ true → any_mark (is_held_of gs other) ms ≡ false
+    none-later : is_vacant m ≡ false → (gs : List ℕ) (other : Mode) → is_of gs other m ≡ true → list_any (is_held_of gs other) ms ≡ false
     none-later e gs other i =
         let equal = access_equal m.fields m.mode gs other i in
-        sym (ap₂ (λ xs mode. any_mark (is_held_of xs mode) ms) equal.0 equal.1) ∙ alone (is_vacant m) (any_mark (is_held_of m.fields m.mode) ms) e now-or-later
+        sym (ap₂ (λ xs mode. list_any (is_held_of xs mode) ms) equal.0 equal.1) ∙ alone (is_vacant m) (list_any (is_held_of m.fields m.mode) ms) e now-or-later
       where
         alone : (v a : Bool) → v ≡ false → (v || not a) ≡ true → a ≡ false
         alone v a e s = grind arith
 
     at : ((fewer : List (List ℕ × Mode)) → listed_once fewer ≡ true → Lists fewer ms → length fewer ≡ held_count ms) → (is_vacant m ≡ true) ⊎ (is_vacant m ≡ false) → length keys ≡ held_count (m ∷ ms)
     at rest (inl e) =
-        rest keys once (λ gs other. vacant (is_of gs other m) (is_vacant m) (is_listed keys gs other) (any_mark (is_held_of gs other) ms) e (same gs other))
-        ∙ sym (cond-true (is_vacant m) _ _ e)
+        let count = count_cons m ms in
+        rest keys once (λ gs other. vacant (is_of gs other m) (is_vacant m) (is_listed keys gs other) (list_any (is_held_of gs other) ms) e (same gs other))
+        ∙ grind arith
     at rest (inr e) =
-        let here : is_listed keys m.fields m.mode ≡ true = same m.fields m.mode ∙ first (is_of m.fields m.mode m) (is_vacant m) (any_mark (is_held_of m.fields m.mode) ms) (access_same m.fields m.mode) e in
+        let count = count_cons m ms in
+        let here : is_listed keys m.fields m.mode ≡ true = same m.fields m.mode ∙ first (is_of m.fields m.mode m) (is_vacant m) (list_any (is_held_of m.fields m.mode) ms) (access_same m.fields m.mode) e in
         sym (length_without m.fields m.mode keys here)
         ∙ ap suc
         (rest (without m.fields m.mode keys) (once_without m.fields m.mode keys once)
-        (λ gs other. listed_without m.fields m.mode keys once gs other ∙ held (is_of gs other m) (is_vacant m) (is_listed keys gs other) (any_mark (is_held_of gs other) ms) e (same gs other) (none-later e gs other)))
-        ∙ sym (cond-false (is_vacant m) _ _ e)
+        (λ gs other. listed_without m.fields m.mode keys once gs other ∙ held (is_of gs other m) (is_vacant m) (is_listed keys gs other) (list_any (is_held_of gs other) ms) e (same gs other) (none-later e gs other)))
+        ∙ grind arith
       where
         first : (i v a : Bool) → i ≡ true → v ≡ false → ((i && not v) || a) ≡ true
         first i v a t f = grind arith

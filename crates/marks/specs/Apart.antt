@@ -1,14 +1,13 @@
 -- Lists in which held marks are told apart. Assumes nothing.
 use Rattle.std.specs.Prelude.{ℕ, ◌^◌, ◌<◌, Bool, true, false, not, ◌&&◌, ◌||◌, List, [], ◌∷◌}
-use Rattle.std.specs.List.{AllByRecursion}
+use Rattle.std.specs.List.{AllByRecursion, list_any}
 use Rattle.items.specs.declared.mode.Mode.{Mode}
 use Rattle.marks.specs.Marks.{MarkMeant, same_access, is_vacant, is_held_of}
-use Rattle.marks.specs.Places.{any_mark}
 
 -- whether no two held marks have the same fields and mode
 abbrev pub told_apart : List MarkMeant → Bool
 told_apart [] = true
-told_apart (m ∷ ms) = (is_vacant m || not (any_mark (is_held_of m.fields m.mode) ms)) && told_apart ms
+told_apart (m ∷ ms) = (is_vacant m || not (list_any (is_held_of m.fields m.mode) ms)) && told_apart ms
 
 -- whether an access, by its fields and mode, is in a list of accesses
 abbrev pub is_listed : List (List ℕ × Mode) → List ℕ → Mode → Bool

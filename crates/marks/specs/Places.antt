@@ -1,15 +1,13 @@
 -- Where in a list of marks an item and mode can be held. Assumes nothing.
-use Rattle.std.specs.Prelude.{◌≡◌, ℕ, zero, suc, Bool, true, false, not, ◌&&◌, ◌||◌, List, [], ◌∷◌, Some, None, Option, slice_index_or}
+use Rattle.std.specs.Prelude.{◌≡◌, ℕ, zero, suc, Bool, true, false, not, ◌&&◌, List, [], ◌∷◌, Some, None, Option, slice_index_or}
+use Rattle.std.specs.List.{list_any}
 use Rattle.items.specs.declared.mode.Mode.{Mode}
 use Rattle.items.specs.declared.mode.Mode.TheVariants.{Look}
 use Rattle.marks.specs.declared.slices.Place.{Place}
 use Rattle.marks.specs.declared.slices.Place.TheVariants.{Held, Vacant}
 use Rattle.marks.specs.Marks.{MarkMeant, is_vacant, is_held_of, fresh_mark}
-
 -- whether some mark of a list passes a test
-abbrev pub any_mark : (MarkMeant → Bool) → List MarkMeant → Bool
-any_mark test [] = false
-any_mark test (m ∷ ms) = test m || any_mark test ms
+pub use Rattle.std.specs.List.{list_any as any_mark}
 
 -- whether the mark at a place is the first that passes a test
 abbrev pub is_first : (MarkMeant → Bool) → List MarkMeant → ℕ → Bool
@@ -31,5 +29,5 @@ mark_at ms p = slice_index_or ms p (fresh_mark [] Look)
 -- mark, of whichever, where none is held; or none, where none is held and none is vacant
 abbrev pub Found : List MarkMeant → List ℕ → Mode → Option Place → Type 0
 Found ms fs mode (Some (Held p)) = is_first (is_held_of fs mode) ms p ≡ true
-Found ms fs mode (Some (Vacant p)) = (any_mark (is_held_of fs mode) ms ≡ false) × (passes_at is_vacant ms p ≡ true)
-Found ms fs mode None = (any_mark (is_held_of fs mode) ms ≡ false) × (any_mark is_vacant ms ≡ false)
+Found ms fs mode (Some (Vacant p)) = (list_any (is_held_of fs mode) ms ≡ false) × (passes_at is_vacant ms p ≡ true)
+Found ms fs mode None = (list_any (is_held_of fs mode) ms ≡ false) × (list_any is_vacant ms ≡ false)

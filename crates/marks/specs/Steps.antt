@@ -1,8 +1,9 @@
 -- What each call leaves of a list of marks, of any length and any contents. Assumes nothing.
 use Rattle.std.specs.Prelude.{◌≡◌, ℕ, Bool, true, false, cond, List, [], ◌∷◌, map, slice_set}
+use Rattle.std.specs.List.{list_any}
 use Rattle.items.specs.declared.mode.Mode.{Mode}
 use Rattle.marks.specs.Marks.{MarkMeant, is_vacant, is_held_of, fresh_mark, joins, inherits, leaves}
-use Rattle.marks.specs.Places.{any_mark, passes_at}
+use Rattle.marks.specs.Places.{passes_at}
 
 -- the marks when a bay holds as own the first that is held with these fields and this mode
 abbrev pub first_joined : ℕ → List ℕ → Mode → List MarkMeant → List MarkMeant
@@ -22,8 +23,8 @@ AfterHold false false bay fs mode ms after = after ≡ ms
 
 -- holding: whether it was done, and the marks after it
 pub record HoldStep (bay : ℕ) (fs : List ℕ) (mode : Mode) (ms : List MarkMeant) (was-done : Bool) (after : List MarkMeant) : Type 0 where
-  pub answer : was-done ≡ cond (any_mark (is_held_of fs mode) ms) true (any_mark is_vacant ms)
-  pub marks : AfterHold (any_mark (is_held_of fs mode) ms) (any_mark is_vacant ms) bay fs mode ms after
+  pub answer : was-done ≡ cond (list_any (is_held_of fs mode) ms) true (list_any is_vacant ms)
+  pub marks : AfterHold (list_any (is_held_of fs mode) ms) (list_any is_vacant ms) bay fs mode ms after
 
 -- the marks when the takers inherit those that a bay holds
 abbrev pub all_inherited : ℕ → ℕ → List MarkMeant → List MarkMeant

@@ -42,37 +42,25 @@ pub(crate) fn find_place<I: Kind + Copy>(marks: &[Mark<I>], access: &Access<I>) 
 pub(crate) fn is_own<I: Kind + Copy>(marks: &[Mark<I>], bay: u8, access: &Access<I>) -> bool
     ensures { result ≡ holds_own (meant_marks I.Kind.fields marks.now) bay (I.Kind.fields access.now.item) access.now.mode }
 {
-    for mark in marks {
-        if mark.is_of(access) && has_bay(mark.own, bay) {
-            return true;
-        }
-    }
-    false
+    marks
+        .iter()
+        .any(|mark| mark.is_of(access) && has_bay(mark.own, bay))
 }
 
 // Whether a bay holds the access as inherited.
 pub(crate) fn is_inherited<I: Kind + Copy>(marks: &[Mark<I>], bay: u8, access: &Access<I>) -> bool
     ensures { result ≡ holds_inherited (meant_marks I.Kind.fields marks.now) bay (I.Kind.fields access.now.item) access.now.mode }
 {
-    for mark in marks {
-        if mark.is_of(access) && has_bay(mark.inherited, bay) {
-            return true;
-        }
-    }
-    false
+    marks
+        .iter()
+        .any(|mark| mark.is_of(access) && has_bay(mark.inherited, bay))
 }
 
 // How many marks are held.
 pub(crate) fn count_held<I: Kind + Copy>(marks: &[Mark<I>]) -> usize
     ensures { result ≡ held_count (meant_marks I.Kind.fields marks.now) }
 {
-    let mut count = 0;
-    for mark in marks {
-        if !mark.is_vacant() {
-            count += 1;
-        }
-    }
-    count
+    marks.iter().filter(|mark| !mark.is_vacant()).count()
 }
 
 // The bays that hold a mark against this access: either way, but the given bay only as inherited.

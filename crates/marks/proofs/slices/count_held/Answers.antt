@@ -1,20 +1,13 @@
-use Rattle.std.proofs.Common.{ap, ◌∙◌, arith}
-use Rattle.marks.specs.Marks.{meant_mark}
-use Rattle.marks.specs.Holding.{held_count}
-use Rattle.marks.proofs.SliceLaws.{read_all}
-use Rattle.marks.proofs.ReadLaws.{count_more}
+use Rattle.std.proofs.Common.{not, sym, ◌∙◌, rules, tests}
+use Rattle.std.proofs.lemmas.Iterator.{YieldsList-from_slice}
+use Rattle.std.proofs.lemmas.Iterator.Consumers.{YieldsList-from_filter, count_from_yields_List}
+use Rattle.std.proofs.lemmas.List.Folds.{fold-map}
+use Rattle.std.proofs.lemmas.List.Sums.{length-filter}
+use Rattle.marks.specs.Marks.{meant_mark, is_vacant}
 use Rattle.marks.proofs.slices.count_held.Goals as goal
-use Rattle.marks.proofs.slices.count_held.Goals.{then-not-is_vacant, else-not-is_vacant}
-
-pub loop-mark-preserved : goal.loop-mark-preserved
-loop-mark-preserved g c =
-    let more = count_more (meant_mark g.I.Kind.fields) c.args.marks.now c.loop-mark.mark-index c.mark-item.result c.loop-mark-test.true c.mark-item.is in
-    elim c.if-not-is_vacant.branch [
-      | then-not-is_vacant w ↦ (grind arith, grind arith)
-      | else-not-is_vacant w ↦ (grind arith, grind arith)
-    ]
 
 pub returns : goal.returns
 returns g c =
-    c.loop-mark.invariant.1
-    ∙ ap held_count (read_all (meant_mark g.I.Kind.fields) c.args.marks.now c.loop-mark.mark-index c.loop-mark-test.false)
+    count_from_yields_List c.filter.result _ c.count.ensures.ran (YieldsList-from_filter _ (λ m. not (is_vacant (meant_mark g.I.Kind.fields m))) (YieldsList-from_slice c.args.marks.now cc) c.filter.ensures.closure (λ x b q k. search (rules, tests)))
+    ∙ length-filter (λ m. not (is_vacant (meant_mark g.I.Kind.fields m))) c.args.marks.now
+    ∙ sym (fold-map _ _ 0 c.args.marks.now)
