@@ -2,7 +2,8 @@
 use Rattle.std.specs.Prelude.{◌≡◌, ℕ, Bool, true, false, cond, List, [], ◌∷◌, map, slice_set}
 use Rattle.std.specs.List.{list_any}
 use Rattle.items.specs.declared.mode.Mode.{Mode}
-use Rattle.marks.specs.Marks.{MarkMeant, is_vacant, is_held_of, fresh_mark, joins, inherits, leaves}
+use Rattle.marks.specs.declared.mark.Mark.{Mark}
+use Rattle.marks.specs.Marks.{MarkMeant, meant_mark, meant_marks, is_vacant, is_held_of, fresh_mark, joins, inherits, leaves}
 use Rattle.marks.specs.Places.{passes_at}
 
 -- the marks when a bay holds as own the first that is held with these fields and this mode
@@ -25,6 +26,12 @@ AfterHold false false bay fs mode ms after = after ≡ ms
 pub record HoldStep (bay : ℕ) (fs : List ℕ) (mode : Mode) (ms : List MarkMeant) (was-done : Bool) (after : List MarkMeant) : Type 0 where
   pub answer : was-done ≡ cond (list_any (is_held_of fs mode) ms) true (list_any is_vacant ms)
   pub marks : AfterHold (list_any (is_held_of fs mode) ms) (list_any is_vacant ms) bay fs mode ms after
+
+-- the marks were changed one by one: whatever f each change does to what its mark means, all marks mean what f makes of
+-- what they meant
+abbrev pub AllChanged : {I : Type 0} → (I → List ℕ) → (Mark I → Mark I → Type 0) → List (Mark I) → List (Mark I) → Type 0
+AllChanged {I} fields change ms after =
+    (f : MarkMeant → MarkMeant) → ((m n : Mark I) → change m n → meant_mark fields n ≡ f (meant_mark fields m)) → meant_marks fields after ≡ map f (meant_marks fields ms)
 
 -- the marks when the takers inherit those that a bay holds
 abbrev pub all_inherited : ℕ → ℕ → List MarkMeant → List MarkMeant

@@ -10,8 +10,7 @@ ghost use Rattle.marks.specs.Places.{Found};
 use crate::access::Access;
 use crate::mark::Mark;
 use crate::slices::{
-    Place, bays_against, count_held, find_place, hand_on_all, inherit_all, is_inherited, is_own,
-    join_at, leave_all, take_at, vacate_all,
+    Place, bays_against, change_all, count_held, find_place, is_inherited, is_own, join_at, take_at,
 };
 use items::{Kind, Layer, Mode, Reason, Refusal};
 
@@ -52,7 +51,7 @@ impl<'a, I: Kind + Copy> MarkList<'a, I> {
                 marks,
             });
         }
-        vacate_all(marks);
+        change_all(marks, |mark| mark.vacated());
         Ok(MarkList { marks })
     }
 
@@ -85,7 +84,7 @@ impl<'a, I: Kind + Copy> MarkList<'a, I> {
         ensures after { meant_list I.Kind.fields self.new ≡ all_inherited bay takers (meant_list I.Kind.fields self.old) }
         ensures stays { self.new.marks.ghost_name ≡ self.old.marks.ghost_name }
     {
-        inherit_all(self.marks, bay, takers);
+        change_all(self.marks, |mark| mark.inherited_by(bay, takers));
     }
 
     // Makes the bay leave all marks.
@@ -93,7 +92,7 @@ impl<'a, I: Kind + Copy> MarkList<'a, I> {
         ensures after { meant_list I.Kind.fields self.new ≡ all_left bay (meant_list I.Kind.fields self.old) }
         ensures stays { self.new.marks.ghost_name ≡ self.old.marks.ghost_name }
     {
-        leave_all(self.marks, bay);
+        change_all(self.marks, |mark| mark.left(bay));
     }
 
     // Does both in one pass: the takers inherit, then the bay leaves.
@@ -101,7 +100,7 @@ impl<'a, I: Kind + Copy> MarkList<'a, I> {
         ensures after { meant_list I.Kind.fields self.new ≡ all_handed_on bay takers (meant_list I.Kind.fields self.old) }
         ensures stays { self.new.marks.ghost_name ≡ self.old.marks.ghost_name }
     {
-        hand_on_all(self.marks, bay, takers);
+        change_all(self.marks, |mark| mark.handed_on(bay, takers));
     }
 
     // The set of the other bays that hold, either way, a mark whose item overlaps this one and whose mode conflicts with

@@ -1,10 +1,10 @@
 // Functions over slices of marks: finding a place in them, asking about them, and changing all of them.
 ghost use Rattle.std.specs.Prelude.{◌≡◌, ◌<◌, map, length, slice_set};
 ghost use Rattle.items.specs.Modes.{conflicting};
-ghost use Rattle.marks.specs.Marks.{meant_marks, vacated, joins, fresh_mark};
+ghost use Rattle.marks.specs.Marks.{meant_marks, joins, fresh_mark};
 ghost use Rattle.marks.specs.Places.{Found, mark_at};
 ghost use Rattle.marks.specs.Holding.{holds_own, holds_inherited, held_count};
-ghost use Rattle.marks.specs.Steps.{all_inherited, all_left, all_handed_on};
+ghost use Rattle.marks.specs.Steps.{AllChanged};
 ghost use Rattle.marks.specs.Against.{linked_by};
 
 use crate::access::Access;
@@ -76,39 +76,16 @@ pub(crate) fn bays_against<I: Kind + Copy>(marks: &[Mark<I>], bay: u8, access: &
     bays
 }
 
-// Vacates all marks.
-pub(crate) fn vacate_all<I: Kind + Copy>(marks: &mut [Mark<I>])
-    ensures { meant_marks I.Kind.fields marks.new ≡ map vacated (meant_marks I.Kind.fields marks.old) }
+// Changes all marks.
+pub(crate) fn change_all<I: Kind + Copy, F: Fn(Mark<I>) -> Mark<I>>(
+    marks: &mut [Mark<I>],
+    change: F,
+)
+    requires { F.IsAlwaysCallable change }
+    ensures { AllChanged I.Kind.fields (F.post change) marks.old marks.new }
 {
     for mark in marks.iter_mut() {
-        *mark = mark.vacated();
-    }
-}
-
-// Makes the takers inherit the marks that the bay holds.
-pub(crate) fn inherit_all<I: Kind + Copy>(marks: &mut [Mark<I>], bay: u8, takers: u32)
-    ensures { meant_marks I.Kind.fields marks.new ≡ all_inherited bay takers (meant_marks I.Kind.fields marks.old) }
-{
-    for mark in marks.iter_mut() {
-        *mark = mark.inherited_by(bay, takers);
-    }
-}
-
-// Makes the bay leave all marks.
-pub(crate) fn leave_all<I: Kind + Copy>(marks: &mut [Mark<I>], bay: u8)
-    ensures { meant_marks I.Kind.fields marks.new ≡ all_left bay (meant_marks I.Kind.fields marks.old) }
-{
-    for mark in marks.iter_mut() {
-        *mark = mark.left(bay);
-    }
-}
-
-// Makes the takers inherit the marks that the bay holds, and the bay leave all marks.
-pub(crate) fn hand_on_all<I: Kind + Copy>(marks: &mut [Mark<I>], bay: u8, takers: u32)
-    ensures { meant_marks I.Kind.fields marks.new ≡ all_handed_on bay takers (meant_marks I.Kind.fields marks.old) }
-{
-    for mark in marks.iter_mut() {
-        *mark = mark.handed_on(bay, takers);
+        *mark = change(*mark);
     }
 }
 
