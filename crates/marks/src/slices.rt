@@ -67,13 +67,10 @@ pub(crate) fn count_held<I: Kind + Copy>(marks: &[Mark<I>]) -> usize
 pub(crate) fn bays_against<I: Kind + Copy>(marks: &[Mark<I>], bay: u8, access: &Access<I>) -> u32
     ensures { result ≡ linked_by I.Kind.overlapping conflicting bay (I.Kind.fields access.now.item) access.now.mode (meant_marks I.Kind.fields marks.now) }
 {
-    let mut bays = 0;
-    for mark in marks {
-        if access.conflicts(&mark.access) {
-            bays = plus_all(bays, mark.reached_from(bay));
-        }
-    }
-    bays
+    marks
+        .iter()
+        .filter(|mark| access.conflicts(&mark.access))
+        .fold(0, |bays, mark| plus_all(bays, mark.reached_from(bay)))
 }
 
 // Changes all marks.
