@@ -2,14 +2,14 @@
 use Rattle.std.proofs.Common.{◌≡◌, ℕ, zero, suc, ◌^◌, ◌<◌, Bool, true, false, not, ◌&&◌, ◌||◌, List, [], ◌∷◌, map, set, sym, refl, ap, ap₂, ⊎_elim, arith}
 use Rattle.std.specs.List.{AllZip, list_any}
 use Rattle.std.proofs.ByRecursion.{All-map, All-set, All-weaker}
-use Rattle.std.proofs.lemmas.Bool.{and_from, and_parts, and_right, both_ways, cases_Bool, cond_both, or_cases, or_parts, or_right}
+use Rattle.std.proofs.lemmas.Bool.{and_from, and_parts, and_right, cases_Bool, cond_both, or_cases, or_parts, or_right}
 use Rattle.std.proofs.lemmas.Bool.Decides.{nat_tests}
 use Rattle.items.specs.declared.mode.Mode.{Mode}
 use Rattle.boards.specs.BaySets.{with_bay, without_bay, in_either}
 use Rattle.boards.proofs.BitLaws.{bit_zero, number_below, number_from_bits}
 use Rattle.marks.specs.Holders.{minus_bay, plus_all}
 use Rattle.marks.specs.Marks.{MarkMeant, same_access, is_vacant, is_of, is_held_of, holds_either, fresh_mark, vacated, joins, inherits, leaves}
-use Rattle.marks.specs.Places.{passes_at}
+use Rattle.marks.specs.Places.{VacantAt}
 use Rattle.marks.specs.Steps.{first_joined, HoldStep, all_inherited, all_left, all_handed_on}
 use Rattle.marks.specs.Apart.{told_apart, OnlyBays}
 use Rattle.marks.proofs.SameLaws.{access_comm}
@@ -107,8 +107,8 @@ module _ (bay : ℕ) (fs : List ℕ) (mode : Mode) where
   still_apart vacant same turned fresh before after e new t a = grind arith
 
   -- a mark that was vacant is given fields and mode that none is held with
-  apart_set : (ms : List MarkMeant) (p : ℕ) → passes_at is_vacant ms p ≡ true → list_any (is_held_of fs mode) ms ≡ false → told_apart ms ≡ true → told_apart (set ms p (joins bay (fresh_mark fs mode))) ≡ true
-  apart_set [] p v new e = absurd (both_ways false refl v)
+  apart_set : (ms : List MarkMeant) (p : ℕ) → VacantAt ms p → list_any (is_held_of fs mode) ms ≡ false → told_apart ms ≡ true → told_apart (set ms p (joins bay (fresh_mark fs mode))) ≡ true
+  apart_set [] p v new e = absurd (omega (arith, v.0))
   apart_set (m ∷ ms) zero v new e =
       let parts = and_parts (is_vacant m || not (list_any (is_held_of m.fields m.mode) ms)) (told_apart ms) e in
       let none = (or_parts (is_held_of fs mode m) (list_any (is_held_of fs mode) ms) new).1 in
@@ -117,10 +117,10 @@ module _ (bay : ℕ) (fs : List ℕ) (mode : Mode) where
       let own = is_held_of m.fields m.mode in let fresh = joins bay (fresh_mark fs mode) in
       let parts = and_parts (is_vacant m || not (list_any own ms)) (told_apart ms) e in
       let none = or_parts (is_held_of fs mode m) (list_any (is_held_of fs mode) ms) new in
-      let after = any_set own ms p fresh is_vacant v (λ n t. held_not_vacant m.fields m.mode n t) in
+      let after = any_set own ms p fresh (omega (arith, v.0), v.1) (λ n t. held_not_vacant m.fields m.mode n t) in
       and_from _ _
       (still_apart (is_vacant m) (is_of fs mode m) (is_of m.fields m.mode fresh) (not (is_vacant fresh)) (list_any own ms) (list_any own (set ms p fresh)) parts.0 none.0 (access_comm m.fields m.mode fs mode) after)
-      (apart_set ms p v none.1 parts.1)
+      (apart_set ms p (omega (arith, v.0), v.1) none.1 parts.1)
 
   pub hold_apart : (ms after : List MarkMeant) (was-done : Bool) → HoldStep bay fs mode ms was-done after → told_apart ms ≡ true → told_apart after ≡ true
   hold_apart ms after was-done h e =

@@ -7,7 +7,7 @@ use Rattle.items.specs.declared.mode.Mode.{Mode}
 use Rattle.boards.specs.BaySets.{bit}
 use Rattle.boards.proofs.BitLaws.{bit_zero}
 use Rattle.marks.specs.Marks.{MarkMeant, same_access, is_vacant, is_of, is_held_of, fresh_mark, joins}
-use Rattle.marks.specs.Places.{passes_at}
+use Rattle.marks.specs.Places.{VacantAt}
 use Rattle.marks.specs.Holding.{holds_own, holds_inherited}
 use Rattle.marks.specs.Steps.{first_joined, AfterHold, HoldStep}
 use Rattle.marks.proofs.SameLaws.{access_like}
@@ -31,7 +31,7 @@ module _ (bay : ℕ) (fs : List ℕ) (mode : Mode) where
 
   module _ (ms after : List MarkMeant) where
     -- the three ways in which a hold can go
-    pub hold_cases : (P : List MarkMeant → Type 0) (was-done : Bool) → HoldStep bay fs mode ms was-done after → (was-done ≡ true → list_any (is_held_of fs mode) ms ≡ true → P (first_joined bay fs mode ms)) → (was-done ≡ true → list_any (is_held_of fs mode) ms ≡ false → (p : ℕ) → passes_at is_vacant ms p ≡ true → P (set ms p (joins bay (fresh_mark fs mode)))) → (was-done ≡ false → list_any (is_held_of fs mode) ms ≡ false → list_any is_vacant ms ≡ false → P ms) → P after
+    pub hold_cases : (P : List MarkMeant → Type 0) (was-done : Bool) → HoldStep bay fs mode ms was-done after → (was-done ≡ true → list_any (is_held_of fs mode) ms ≡ true → P (first_joined bay fs mode ms)) → (was-done ≡ true → list_any (is_held_of fs mode) ms ≡ false → (p : ℕ) → VacantAt ms p → P (set ms p (joins bay (fresh_mark fs mode)))) → (was-done ≡ false → list_any (is_held_of fs mode) ms ≡ false → list_any is_vacant ms ≡ false → P ms) → P after
     hold_cases P was-done h held vacant nowhere =
         at (list_any (is_held_of fs mode) ms) (list_any is_vacant ms) refl refl h.answer h.marks
       where
@@ -48,7 +48,7 @@ module _ (bay : ℕ) (fs : List ℕ) (mode : Mode) where
     hold-any : (test : MarkMeant → Bool) (more : Bool) → ((m : MarkMeant) → is_held_of fs mode m ≡ true → test (joins bay m) ≡ (more || test m)) → test (joins bay (fresh_mark fs mode)) ≡ more → ((m : MarkMeant) → is_vacant m ≡ true → test m ≡ false) → HoldStep bay fs mode ms true after → list_any test after ≡ (more || list_any test ms)
     hold-any test more joined fresh none h =
         hold_cases (λ l. list_any test l ≡ (more || list_any test ms)) true h (λ z e. any_first test more joined ms e)
-        (λ z e p v. any_set test ms p (joins bay (fresh_mark fs mode)) is_vacant v none ∙ ap (λ x. x || list_any test ms) fresh)
+        (λ z e p v. any_set test ms p (joins bay (fresh_mark fs mode)) v none ∙ ap (λ x. x || list_any test ms) fresh)
         (λ z. absurd (both_ways true z refl))
 
     -- after a hold that was done

@@ -1,7 +1,6 @@
 mod SliceLaws
 pub mod SameLaws
 pub mod AnyLaws
-mod ReadLaws
 mod LinkLaws
 mod PlaceLaws
 mod HoldLaws

@@ -1,20 +1,12 @@
 -- Loops over the elements of a slice, by what the elements mean. Assumes nothing.
-use Rattle.std.proofs.Common.{◌≡◌, ℕ, ◌+◌, ◌<◌, ◌≤◌, List, [], ◌∷◌, ◌++◌, map, length, get_or, take, drop, set, sym, ap, ◌∙◌}
+use Rattle.std.proofs.Common.{◌≡◌, ℕ, ◌+◌, ◌<◌, ◌≤◌, List, ◌++◌, map, length, get_or, take, drop, set, sym, ap, ◌∙◌}
 use Rattle.std.proofs.lemmas.List.Edits.{map_over_more}
-use Rattle.std.proofs.lemmas.List.{append-nil, drop_all, get_or-map, length-map, map-set, take_all, take_more}
+use Rattle.std.proofs.lemmas.List.{append-nil, drop_all, get_or-map, length-map, map-set, take_all}
 
 module _ {A B : Type 0} (meant : A → B) where
   -- the element that is read, among the meanings
   pub read_here : (xs : List A) (i : ℕ) (x : A) → i < length xs → x ≡ get_or xs i x → (d : B) → get_or (map meant xs) i d ≡ meant x
   read_here xs i x h e d = get_or-map meant xs i x d h ∙ ap meant (sym e)
-
-  pub read_more : (xs : List A) (i : ℕ) (x : A) → i < length xs → x ≡ get_or xs i x → take (i + 1) (map meant xs) ≡ take i (map meant xs) ++ meant x ∷ []
-  read_more xs i x h e =
-      let inside : i < length (map meant xs) = simp length-map h in
-      take_more (map meant xs) i (meant x) inside ∙ ap (λ y. take i (map meant xs) ++ y ∷ []) (read_here xs i x h e (meant x))
-
-  pub read_all : (xs : List A) (i : ℕ) → length xs ≤ i → take i (map meant xs) ≡ map meant xs
-  read_all xs i h = take_all i (map meant xs) (simp length-map h)
 
   -- the first i elements of xs have been written over, by f, and ys is the slice now
   abbrev pub Written : (B → B) → List A → List A → ℕ → Type 0

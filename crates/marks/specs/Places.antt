@@ -1,5 +1,5 @@
 -- Where in a list of marks an item and mode can be held. Assumes nothing.
-use Rattle.std.specs.Prelude.{◌≡◌, ℕ, zero, suc, Bool, true, false, not, ◌&&◌, List, [], ◌∷◌, Some, None, Option, slice_index_or}
+use Rattle.std.specs.Prelude.{◌≡◌, ℕ, ◌<◌, true, false, List, [], Some, None, Option, length, position, slice_index_or}
 use Rattle.std.specs.List.{list_any}
 use Rattle.items.specs.declared.mode.Mode.{Mode}
 use Rattle.items.specs.declared.mode.Mode.TheVariants.{Look}
@@ -9,25 +9,17 @@ use Rattle.marks.specs.Marks.{MarkMeant, is_vacant, is_held_of, fresh_mark}
 -- whether some mark of a list passes a test, by the name that the crates above know
 pub use Rattle.std.specs.List.{list_any as any_mark}
 
--- whether the mark at a place is the first that passes a test
-abbrev pub is_first : (MarkMeant → Bool) → List MarkMeant → ℕ → Bool
-is_first test [] p = false
-is_first test (m ∷ ms) zero = test m
-is_first test (m ∷ ms) (suc p) = not (test m) && is_first test ms p
-
--- whether there is a mark at a place, and it passes a test
-abbrev pub passes_at : (MarkMeant → Bool) → List MarkMeant → ℕ → Bool
-passes_at test [] p = false
-passes_at test (m ∷ ms) zero = test m
-passes_at test (m ∷ ms) (suc p) = passes_at test ms p
-
 -- the mark at a place, or one that means nothing past the end
 abbrev pub mark_at : List MarkMeant → ℕ → MarkMeant
 mark_at ms p = slice_index_or ms p (fresh_mark [] Look)
 
+-- there is a mark at a place, and it is vacant
+abbrev pub VacantAt : List MarkMeant → ℕ → Type 0
+VacantAt ms p = (p < length ms) × (is_vacant (mark_at ms p) ≡ true)
+
 -- what a place that was looked for is: that of the first held mark with these fields and this mode; that of a vacant
 -- mark, of whichever, where none is held; or none, where none is held and none is vacant
 abbrev pub Found : List MarkMeant → List ℕ → Mode → Option Place → Type 0
-Found ms fs mode (Some (Held p)) = is_first (is_held_of fs mode) ms p ≡ true
-Found ms fs mode (Some (Vacant p)) = (list_any (is_held_of fs mode) ms ≡ false) × (passes_at is_vacant ms p ≡ true)
+Found ms fs mode (Some (Held p)) = position (is_held_of fs mode) ms ≡ Some p
+Found ms fs mode (Some (Vacant p)) = (list_any (is_held_of fs mode) ms ≡ false) × VacantAt ms p
 Found ms fs mode None = (list_any (is_held_of fs mode) ms ≡ false) × (list_any is_vacant ms ≡ false)

@@ -4,7 +4,7 @@ use Rattle.std.specs.List.{list_any}
 use Rattle.items.specs.declared.mode.Mode.{Mode}
 use Rattle.marks.specs.declared.mark.Mark.{Mark}
 use Rattle.marks.specs.Marks.{MarkMeant, meant_mark, meant_marks, is_vacant, is_held_of, fresh_mark, joins, inherits, leaves}
-use Rattle.marks.specs.Places.{passes_at}
+use Rattle.marks.specs.Places.{VacantAt}
 
 -- the marks when a bay holds as own the first that is held with these fields and this mode
 abbrev pub first_joined : ℕ → List ℕ → Mode → List MarkMeant → List MarkMeant
@@ -14,7 +14,7 @@ first_joined bay fs mode (m ∷ ms) = cond (is_held_of fs mode m) (joins bay m �
 -- the marks when a bay holds one as own that was vacant and is given these fields and this mode; which one is free
 abbrev pub VacantTaken : ℕ → List ℕ → Mode → List MarkMeant → List MarkMeant → Type 0
 VacantTaken bay fs mode ms after =
-    (p : ℕ) × (passes_at is_vacant ms p ≡ true) × (after ≡ slice_set ms p (joins bay (fresh_mark fs mode)))
+    (p : ℕ) × VacantAt ms p × (after ≡ slice_set ms p (joins bay (fresh_mark fs mode)))
 
 -- the marks after a hold, by whether one is held with the fields and mode, and whether one is vacant
 abbrev pub AfterHold : Bool → Bool → ℕ → List ℕ → Mode → List MarkMeant → List MarkMeant → Type 0

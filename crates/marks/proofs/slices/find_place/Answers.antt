@@ -1,8 +1,7 @@
 use Rattle.std.proofs.Common.{◌+◌, arith}
 use Rattle.std.proofs.lemmas.List.{length-map}
 use Rattle.marks.specs.Marks.{meant_mark, meant_marks, is_vacant, is_held_of}
-use Rattle.marks.proofs.ReadLaws.{any_more, first_here, passes_here}
-use Rattle.marks.proofs.PlaceLaws.{spare_more, found_at_end}
+use Rattle.marks.proofs.PlaceLaws.{any_more, first_here, found_at_end, spare_more, vacant_here}
 use Rattle.marks.proofs.slices.find_place.Goals as goal
 use Rattle.marks.proofs.slices.find_place.Goals.{else-is_of-via-then-is_of+else-not-is_vacant, else-is_of-via-else-is_of, then-is_none+then-is_vacant, else-is_none, else-is_none-via-then-is_none+else-is_vacant, else-is_none-via-else-is_none}
 
@@ -18,7 +17,7 @@ loop-i-preserved g c =
       ],
       elim c.if-is_none.branch [
         | then-is_none+then-is_vacant w ↦
-            rw w.spare-is (passes_here f c.args.marks.now c.loop-i.i c.index-marks-i.result c.loop-i-test.true c.index-marks-i.is is_vacant (grind arith))
+            rw w.spare-is (vacant_here f c.args.marks.now c.loop-i.i c.index-marks-i.result c.loop-i-test.true c.index-marks-i.is (grind arith))
         | else-is_none w ↦
             rw w.spare-is
             (spare_more ms c.loop-i.i (c.loop-i.i + 1) _ (more is_vacant) c.loop-i.spare
