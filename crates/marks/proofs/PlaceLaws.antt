@@ -1,14 +1,14 @@
 -- The search for a place, one mark more at a time. Assumes nothing.
-use Rattle.std.proofs.Common.{◌≡◌, ℕ, zero, suc, ◌+◌, ◌<◌, ◌≤◌, Bool, true, false, ◌||◌, ltb, List, [], ◌∷◌, is_some, Some, None, Option, map, length, get_or, position, take, sym, refl, ap, ◌∙◌, arith}
+use Rattle.std.proofs.Common.{◌≡◌, ℕ, zero, suc, ◌+◌, ◌<◌, Bool, true, false, ◌||◌, ltb, List, [], ◌∷◌, is_some, Some, None, Option, map, length, get_or, position, take, refl, ap, ◌∙◌, arith}
 use Rattle.std.specs.List.{list_any, position_or_len}
 use Rattle.std.proofs.lemmas.Bool.{cond-true, lt-ltb}
 use Rattle.std.proofs.lemmas.List.Folds.{list_any_more}
-use Rattle.std.proofs.lemmas.List.{length-map, take_all}
+use Rattle.std.proofs.lemmas.List.{length-map}
 use Rattle.items.specs.declared.mode.Mode.{Mode}
 use Rattle.marks.specs.declared.slices.Place.{Place}
 use Rattle.marks.specs.declared.slices.Place.TheVariants.{Held, Vacant}
 use Rattle.marks.specs.Marks.{MarkMeant, is_vacant, is_held_of}
-use Rattle.marks.specs.Places.{VacantAt, Found}
+use Rattle.marks.specs.Places.{VacantAt}
 use Rattle.marks.proofs.SliceLaws.{read_here}
 
 -- what is remembered of the first i marks: a vacant one, or that none is
@@ -27,18 +27,6 @@ module _ (ms : List MarkMeant) where
   spare_more i j here more (Some (Held p)) e s = s
   spare_more i j here more (Some (Vacant p)) e s = s
   spare_more i j here more None e s = let held = e refl in grind arith
-
-  -- the search has come to the end
-  pub found_at_end : (fs : List ℕ) (mode : Mode) (i : ℕ) → length ms ≤ i → (spare : Option Place) → Searched ms fs mode i spare → Found ms fs mode spare
-  found_at_end fs mode i h spare s = at spare s.1
-    where
-      all : {T : Type 0} (F : List MarkMeant → T) → F ms ≡ F (take i ms)
-      all F = ap F (sym (take_all i ms h))
-
-      at : (spare : Option Place) → Spare ms i spare → Found ms fs mode spare
-      at (Some (Held p)) r = absurd r
-      at (Some (Vacant p)) r = (all (list_any (is_held_of fs mode)) ∙ s.0, r)
-      at None r = (all (list_any (is_held_of fs mode)) ∙ s.0, all (list_any is_vacant) ∙ r)
 
 module _ (test : MarkMeant → Bool) where
   place_of_first : (ms : List MarkMeant) (i : ℕ) (d : MarkMeant) → i < length ms → list_any test (take i ms) ≡ false → test (get_or ms i d) ≡ true → position_or_len test ms ≡ i

@@ -1,7 +1,6 @@
 use Rattle.std.proofs.Common.{◌+◌, arith}
-use Rattle.std.proofs.lemmas.List.{length-map}
 use Rattle.marks.specs.Marks.{meant_mark, meant_marks, is_vacant, is_held_of}
-use Rattle.marks.proofs.PlaceLaws.{any_more, first_here, found_at_end, spare_more, vacant_here}
+use Rattle.marks.proofs.PlaceLaws.{any_more, first_here, spare_more, vacant_here}
 use Rattle.marks.proofs.slices.find_place.Goals as goal
 use Rattle.marks.proofs.slices.find_place.Goals.{else-is_of-via-then-is_of+else-not-is_vacant, else-is_of-via-else-is_of, then-is_none+then-is_vacant, else-is_none, else-is_none-via-then-is_none+else-is_vacant, else-is_none-via-else-is_none}
 
@@ -32,7 +31,3 @@ loop-i-preserved g c =
 pub returns-then-not-is_vacant : goal.returns-then-not-is_vacant
 returns-then-not-is_vacant g c =
     first_here (meant_mark g.I.Kind.fields) c.args.marks.now c.loop-i.i c.index-marks-i.result c.loop-i-test.true c.index-marks-i.is (is_held_of (g.I.Kind.fields c.args.access.now.item) c.args.access.now.mode) c.loop-i.invariant.0 (let a = c.if-is_of.ensures in let b = c.if-not-is_vacant.ensures in grind arith)
-
-pub returns-after-loop-i : goal.returns-after-loop-i
-returns-after-loop-i g c =
-    found_at_end (meant_marks g.I.Kind.fields c.args.marks.now) (g.I.Kind.fields c.args.access.now.item) c.args.access.now.mode c.loop-i.i (simp length-map c.loop-i-test.false) c.loop-i.spare c.loop-i.invariant
