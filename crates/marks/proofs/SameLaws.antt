@@ -1,12 +1,11 @@
 -- Fields and modes that are tested for sameness. Assumes nothing.
-use Rattle.std.proofs.Common.{◌≡◌, ℕ, zero, suc, true, List, [], ◌∷◌, sym, refl, ap, ◌∙◌, ap₂, arith}
+use Rattle.std.proofs.Common.{◌≡◌, ℕ, true, List, [], ◌∷◌, refl, ap₂, arith}
 use Rattle.std.proofs.lemmas.Bool.{eq-eqb, eqb-true, and_from, and_parts}
 use Rattle.std.proofs.lemmas.Bool.Decides.{nat_tests}
 use Rattle.items.proofs.FieldLists.{same_fields_comm}
 use Rattle.items.specs.Kinds.{same_fields}
 use Rattle.items.specs.Modes.{row_of}
 use Rattle.items.specs.declared.mode.Mode.{Mode}
-use Rattle.items.specs.declared.mode.Mode.TheVariants.{Look, Set, Add, Raise}
 use Rattle.marks.specs.Marks.{same_mode, same_access}
 
 pub fields_equal : (fs gs : List ℕ) → same_fields fs gs ≡ true → fs ≡ gs
@@ -20,20 +19,8 @@ pub fields_same : (fs : List ℕ) → same_fields fs fs ≡ true
 fields_same [] = refl
 fields_same (x ∷ xs) = and_from _ _ (eq-eqb x x refl) (fields_same xs)
 
-abbrev of_row : ℕ → Mode
-of_row zero = Look
-of_row (suc zero) = Set
-of_row (suc (suc zero)) = Add
-of_row (suc (suc (suc n))) = Raise
-
-of_row_lem : (m : Mode) → of_row (row_of m) ≡ m
-of_row_lem Look = refl
-of_row_lem Set = refl
-of_row_lem Add = refl
-of_row_lem Raise = refl
-
 pub mode_equal : (m n : Mode) → same_mode m n ≡ true → m ≡ n
-mode_equal m n e = sym (of_row_lem m) ∙ ap of_row (eqb-true (row_of m) (row_of n) e) ∙ of_row_lem n
+mode_equal m n e = grind (arith, nat_tests)
 
 -- the same access is one with equal fields and equal mode
 module _ (fs : List ℕ) (m : Mode) where
