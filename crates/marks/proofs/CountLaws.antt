@@ -1,12 +1,13 @@
 -- How many marks are held, and which fields and mode. Assumes nothing.
-use Rattle.std.proofs.Common.{◌≡◌, ℕ, zero, suc, ◌^◌, ◌<◌, ◌≤◌, Bool, true, false, cond, not, ◌&&◌, ◌||◌, eqb, ltb, ◌⊎◌, List, [], ◌∷◌, length, Decides, sym, refl, ap, ◌∙◌, inl, inr, ⊎_elim, arith}
+use Rattle.std.proofs.Common.{w32, ◌≡◌, ℕ, suc, ◌^◌, ◌<◌, ◌≤◌, Bool, true, false, cond, not, ◌&&◌, ◌||◌, eqb, ltb, ◌⊎◌, List, [], ◌∷◌, length, Decides, refl, inl, inr, ⊎_elim, arith}
 use Rattle.std.specs.List.{list_any}
 use Rattle.std.proofs.lemmas.List.Sums.{count_by-le-length, sum_by-cons}
-use Rattle.std.proofs.lemmas.Bool.{and_from, and_parts, both_ways, cases_Bool, cases_lt, not-true, or_cases, or_left, or_right}
+use Rattle.std.specs.Int.{trailing_zeros}
+use Rattle.std.proofs.lemmas.Nat.Bits.{bit_at-trailing_zeros}
+use Rattle.std.proofs.lemmas.Bool.{eq-eqb, and_parts, both_ways, cases_Bool, not-true, or_cases, or_left, or_right}
 use Rattle.std.proofs.lemmas.Bool.Decides.{nat_tests}
 use Rattle.items.specs.declared.mode.Mode.{Mode}
 use Rattle.boards.specs.BaySets.{bit}
-use Rattle.boards.proofs.BitLaws.{bit_zero, number_from_bits}
 use Rattle.marks.specs.Marks.{MarkMeant, is_vacant, is_of, is_held_of}
 use Rattle.marks.specs.Holding.{holds_own, holds_inherited, held_count}
 use Rattle.marks.specs.Apart.{OnlyBays}
@@ -28,26 +29,10 @@ vacant_when_fewer (m ∷ ms) =
     grind (arith, nat_tests)
 
 -- fields and mode are held exactly when some bay holds them, as own or as inherited
-some_below : (f : ℕ → Bool) (n : ℕ) → ((k : ℕ) → k < n → f k ≡ false) ⊎ ((k : ℕ) × (k < n) × (f k ≡ true))
-some_below f zero = inl (λ k l. absurd (omega arith))
-some_below f (suc n) = at (some_below f n) (cases_Bool (f n))
-  where
-    at : ((k : ℕ) → k < n → f k ≡ false) ⊎ ((k : ℕ) × (k < n) × (f k ≡ true)) → (f n ≡ true) ⊎ (f n ≡ false) → ((k : ℕ) → k < suc n → f k ≡ false) ⊎ ((k : ℕ) × (k < suc n) × (f k ≡ true))
-    at (inr s) here = inr (s.0, omega arith, s.2)
-    at (inl none) (inl t) = inr (n, omega arith, t)
-    at (inl none) (inr e) = inl (λ k l. ⊎_elim (λ below. none k below) (λ same. ap f (omega arith) ∙ e) (below_or k l))
-      where
-        below_or : (k : ℕ) → k < suc n → (k < n) ⊎ (n ≤ k)
-        below_or k l = cases_lt k n
-
 pub some_bay : (s : ℕ) → s < 2 ^ 32 → eqb s 0 ≡ false → (b : ℕ) × (b < 32) × (bit s b ≡ true)
-some_bay s narrow ne = at (some_below (bit s) 32)
-  where
-    at : ((k : ℕ) → k < 32 → bit s k ≡ false) ⊎ ((k : ℕ) × (k < 32) × (bit s k ≡ true)) → (b : ℕ) × (b < 32) × (bit s b ≡ true)
-    at (inr found) = found
-    at (inl none) =
-        let e : s ≡ 0 = number_from_bits (λ k. false) 32 s narrow none ∙ sym (number_from_bits (λ k. false) 32 0 (omega arith) (λ k l. bit_zero k)) in
-        absurd (grind (arith, nat_tests))
+some_bay s narrow ne =
+    let some : 0 < s = grind (arith, nat_tests) in let lowest = bit_at-trailing_zeros w32 s some narrow in
+    (trailing_zeros w32 s, lowest.0, eq-eqb _ 1 lowest.1)
 
 module _ (gs : List ℕ) (other : Mode) where
   abbrev pub Holder : List MarkMeant → Type 0
@@ -79,14 +64,10 @@ module _ (gs : List ℕ) (other : Mode) where
 
   holder_held : (ms : List MarkMeant) (b : ℕ) → (holds_own ms b gs other || holds_inherited ms b gs other) ≡ true → list_any (is_held_of gs other) ms ≡ true
   holder_held ms b e =
-      ⊎_elim (any_weaker (λ m. is_of gs other m && bit m.own b) (is_held_of gs other) (λ m t. at m (bit m.own b) (vacant_own m b) t) ms)
-      (any_weaker (λ m. is_of gs other m && bit m.inherited b) (is_held_of gs other) (λ m t. at m (bit m.inherited b) (vacant_inherited m b) t) ms)
+      ⊎_elim
+      (any_weaker (λ m. is_of gs other m && bit m.own b) (is_held_of gs other) (λ m t. let none = vacant_own m b in grind arith) ms)
+      (any_weaker (λ m. is_of gs other m && bit m.inherited b) (is_held_of gs other) (λ m t. let none = vacant_inherited m b in grind arith) ms)
       (or_cases (holds_own ms b gs other) (holds_inherited ms b gs other) e)
-    where
-      at : (m : MarkMeant) (has : Bool) → (is_vacant m ≡ true → has ≡ false) → (is_of gs other m && has) ≡ true → is_held_of gs other m ≡ true
-      at m has none t =
-          let parts = and_parts (is_of gs other m) has t in
-          and_from _ _ parts.0 (⊎_elim (λ v. absurd (both_ways has (none v) parts.1)) (λ f. ap not f) (cases_Bool (is_vacant m)))
 
   pub held_decides : (ms : List MarkMeant) → OnlyBays ms → Decides (list_any (is_held_of gs other) ms) (Holder ms)
   held_decides ms narrow = (held_holder ms narrow, λ s. holder_held ms s.0 s.2)
