@@ -1,5 +1,5 @@
 -- How many marks are held, and which fields and mode. Assumes nothing.
-use Rattle.std.proofs.Common.{w32, ◌≡◌, ℕ, suc, ◌^◌, ◌<◌, ◌≤◌, Bool, true, false, cond, not, ◌&&◌, ◌||◌, eqb, ltb, ◌⊎◌, List, [], ◌∷◌, length, Decides, refl, inl, inr, ⊎_elim, arith}
+use Rattle.std.proofs.Common.{w32, ◌≡◌, ℕ, suc, ◌^◌, ◌<◌, ◌≤◌, Bool, true, false, cond, not, ◌&&◌, ◌||◌, eqb, ltb, List, [], ◌∷◌, length, Decides, refl, ⊎_elim, arith}
 use Rattle.std.specs.List.{list_any}
 use Rattle.std.proofs.lemmas.List.Sums.{count_by-le-length, sum_by-cons}
 use Rattle.std.specs.Int.{trailing_zeros}
@@ -39,12 +39,11 @@ module _ (gs : List ℕ) (other : Mode) where
   Holder ms = (b : ℕ) × (b < 32) × ((holds_own ms b gs other || holds_inherited ms b gs other) ≡ true)
 
   held_here : (m : MarkMeant) → (m.own < 2 ^ 32) × (m.inherited < 2 ^ 32) → is_vacant m ≡ false → (b : ℕ) × (b < 32) × ((bit m.own b || bit m.inherited b) ≡ true)
-  held_here m narrow e = at (cases_Bool (eqb m.own 0))
-    where
-      at : (eqb m.own 0 ≡ true) ⊎ (eqb m.own 0 ≡ false) → (b : ℕ) × (b < 32) × ((bit m.own b || bit m.inherited b) ≡ true)
-      at (inl none) =
-          let s = some_bay m.inherited narrow.1 (grind arith) in (s.0, s.1, or_right (bit m.own s.0) _ s.2)
-      at (inr some) = let s = some_bay m.own narrow.0 some in (s.0, s.1, or_left _ (bit m.inherited s.0) s.2)
+  held_here m narrow e =
+      ⊎_elim
+      (λ none. let s = some_bay m.inherited narrow.1 (grind arith) in (s.0, s.1, or_right (bit m.own s.0) _ s.2))
+      (λ some. let s = some_bay m.own narrow.0 some in (s.0, s.1, or_left _ (bit m.inherited s.0) s.2))
+      (cases_Bool (eqb m.own 0))
 
   held_holder : (ms : List MarkMeant) → OnlyBays ms → list_any (is_held_of gs other) ms ≡ true → Holder ms
   held_holder [] narrow e = absurd (both_ways false refl e)
