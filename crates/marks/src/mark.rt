@@ -8,7 +8,8 @@ use crate::holders::{minus_bay, plus_all, plus_bay};
 use boards::has_bay;
 use items::{Kind, Mode};
 
-// A mark that no bay holds is vacant; its access then means nothing.
+// A mark that no bay holds is vacant; its access then means nothing. Contracts say what a mark means by `meant_mark`: a
+// model of what is copied must give the item back, and an item's fields don't.
 #[derive(Clone, Copy)]
 pub struct Mark<I> {
     pub(crate) access: Access<I>,

@@ -26,7 +26,8 @@ const BAD_SIZE: Refusal = Refusal {
     entry: 0,
 };
 
-// Marks in memory that the caller lends.
+// Marks in memory that the caller lends. Contracts say what they mean by `meant_list`: a model would hide the name of the
+// lent memory, which each call keeps.
 #[derive(Drop)]
 pub struct MarkList<'a, I> {
     marks: &'a mut [Mark<I>],

@@ -1,5 +1,5 @@
 // Functions over slices of marks: finding a place in them, asking about them, and changing all of them.
-ghost use Rattle.std.specs.Prelude.{◌≡◌, ◌<◌, map, length, slice_set};
+ghost use Rattle.std.specs.Prelude.{◌≡◌, ◌<◌, length, slice_set};
 ghost use Rattle.items.specs.Modes.{conflicting};
 ghost use Rattle.marks.specs.Marks.{meant_marks, joins, fresh_mark};
 ghost use Rattle.marks.specs.Places.{Found, mark_at};
@@ -20,7 +20,8 @@ pub(crate) enum Place {
     Vacant(usize),
 }
 
-// Finds the first held mark of the same access, or else a vacant mark, or none.
+// Finds the first held mark of the same access, or else a vacant mark, or none. One pass does both: a held mark ends it,
+// and the first vacant one is remembered until then.
 pub(crate) fn find_place<I: Kind + Copy>(marks: &[Mark<I>], access: &Access<I>) -> Option<Place>
     ensures { Found (meant_marks I.Kind.fields marks.now) (I.Kind.fields access.now.item) access.now.mode result }
 {

@@ -10,20 +10,14 @@ loop-i-preserved g c =
     let test = is_held_of (g.I.Kind.fields c.args.access.now.item) c.args.access.now.mode in
     let more = any_more f c.args.marks.now c.loop-i.i c.index-marks-i.result c.loop-i-test.true c.index-marks-i.is in
     let held = more test in let before = c.loop-i.invariant.0 in (
-      elim c.else-is_of.branch [
-        | else-is_of-via-then-is_of+else-not-is_vacant w ↦ grind arith
-        | else-is_of-via-else-is_of w ↦ grind arith
-      ],
+      grind arith,
       elim c.if-is_none.branch [
         | then-is_none+then-is_vacant w ↦
             rw w.spare-is (vacant_here f c.args.marks.now c.loop-i.i c.index-marks-i.result c.loop-i-test.true c.index-marks-i.is (grind arith))
         | else-is_none w ↦
             rw w.spare-is
             (spare_more ms c.loop-i.i (c.loop-i.i + 1) _ (more is_vacant) c.loop-i.spare
-            (λ e. elim w.else-is_none.branch [
-              | else-is_none-via-then-is_none+else-is_vacant v ↦ grind arith
-              | else-is_none-via-else-is_none v ↦ grind arith
-            ])
+            (λ e. grind arith)
             c.loop-i.invariant.1)
       ],
     )
