@@ -1,7 +1,8 @@
 -- Where held marks are told apart, they are as many as the accesses that are held, listed once each. Assumes nothing.
-use Rattle.std.proofs.Common.{◌≡◌, ℕ, suc, Bool, true, false, cond, not, ◌&&◌, ◌||◌, ◌⊎◌, List, [], ◌∷◌, length, sym, refl, ap, ◌∙◌, ap₂, inl, inr, arith}
+use Rattle.std.proofs.Common.{◌≡◌, ℕ, suc, Bool, true, false, not, ◌&&◌, ◌||◌, ◌⊎◌, List, [], ◌∷◌, filter, length, sym, refl, ap, ◌∙◌, ap₂, inl, inr, arith}
 use Rattle.std.specs.List.{list_any}
-use Rattle.std.proofs.lemmas.Bool.{and_from, and_parts, both_ways, cases_Bool, cond_both, not-true}
+use Rattle.std.proofs.lemmas.Bool.{and_from, and_parts, both_ways, cases_Bool, cond_both, cond-true, not-true, or_parts}
+use Rattle.std.proofs.lemmas.Map.Views.{any-filter_same}
 use Rattle.items.specs.declared.mode.Mode.{Mode}
 use Rattle.marks.specs.Marks.{MarkMeant, same_access, is_vacant, is_of, is_held_of}
 use Rattle.marks.specs.Holding.{held_count}
@@ -12,54 +13,47 @@ use Rattle.marks.proofs.SameLaws.{access_same, access_equal, access_like, access
 -- a list of accesses without one access
 module _ (fs : List ℕ) (mode : Mode) where
   abbrev without : List (List ℕ × Mode) → List (List ℕ × Mode)
-  without [] = []
-  without (a ∷ rest) = cond (same_access fs mode a.0 a.1) rest (a ∷ without rest)
+  without keys = filter (λ a. not (same_access fs mode a.0 a.1)) keys
 
-  -- an access that is the same as the one taken out is listed no more; the others are as they were
-  listed_without : (keys : List (List ℕ × Mode)) → listed_once keys ≡ true → (gs : List ℕ) (other : Mode) → is_listed (without keys) gs other ≡ (not (same_access fs mode gs other) && is_listed keys gs other)
-  listed_without [] once gs other = grind arith
-  listed_without (a ∷ rest) once gs other =
-      let parts = and_parts (not (is_listed rest a.0 a.1)) (listed_once rest) once in
-      cond_both (same_access fs mode a.0 a.1) rest (a ∷ without rest) (λ l. is_listed l gs other ≡ (not (same_access fs mode gs other) && is_listed (a ∷ rest) gs other))
-      (λ e. taken e parts.0)
-      (λ e. stays (same_access fs mode gs other) (same_access a.0 a.1 gs other) (is_listed rest gs other) (is_listed (without rest) gs other) (apart e) (listed_without rest parts.1 gs other))
-    where
-      gone : (s l : Bool) → (s ≡ true → l ≡ false) → l ≡ (not s && (s || l))
-      gone true l h = h refl
-      gone false l h = refl
-
-      taken : same_access fs mode a.0 a.1 ≡ true → not (is_listed rest a.0 a.1) ≡ true → is_listed rest gs other ≡ (not (same_access fs mode gs other) && is_listed (a ∷ rest) gs other)
-      taken e n =
-          let like = access_like fs mode a.0 a.1 e gs other in
-          gone (same_access fs mode gs other) (is_listed rest gs other)
-          (λ s. let same = access_equal a.0 a.1 gs other (sym like ∙ s) in sym (ap₂ (is_listed rest) same.0 same.1) ∙ not-true (is_listed rest a.0 a.1) n)
-          ∙ ap (λ x. not (same_access fs mode gs other) && (x || is_listed rest gs other)) like
-
-      apart : same_access fs mode a.0 a.1 ≡ false → same_access fs mode gs other ≡ true → same_access a.0 a.1 gs other ≡ false
-      apart e s = sym (access_comm gs other a.0 a.1) ∙ sym (access_like fs mode gs other s a.0 a.1) ∙ e
-
-      stays : (s h l w : Bool) → (s ≡ true → h ≡ false) → w ≡ (not s && l) → (h || w) ≡ (not s && (h || l))
-      stays true h l w n e = let none = n refl in grind arith
-      stays false h l w n e = grind arith
+  -- that access is listed no more; the others are as they were
+  listed_without : (keys : List (List ℕ × Mode)) (gs : List ℕ) (other : Mode) → is_listed (without keys) gs other ≡ (not (same_access fs mode gs other) && is_listed keys gs other)
+  listed_without keys gs other =
+      any-filter_same (λ a. same_access a.0 a.1 gs other) (λ a. not (same_access fs mode a.0 a.1)) (not (same_access fs mode gs other))
+      (λ a e. ap not (access_comm fs mode a.0 a.1 ∙ access_like a.0 a.1 gs other e fs mode ∙ access_comm gs other fs mode))
+      keys
 
   once_without : (keys : List (List ℕ × Mode)) → listed_once keys ≡ true → listed_once (without keys) ≡ true
   once_without [] once = refl
   once_without (a ∷ rest) once =
       let parts = and_parts (not (is_listed rest a.0 a.1)) (listed_once rest) once in
-      cond_both (same_access fs mode a.0 a.1) rest (a ∷ without rest) (λ l. listed_once l ≡ true) (λ e. parts.1)
-      (λ e. and_from _ _ (fewer (same_access fs mode a.0 a.1) (is_listed rest a.0 a.1) (is_listed (without rest) a.0 a.1) (listed_without rest parts.1 a.0 a.1) parts.0) (once_without rest parts.1))
+      cond_both (not (same_access fs mode a.0 a.1)) (a ∷ without rest) (without rest) (λ l. listed_once l ≡ true)
+      (λ e. and_from _ _ (fewer (same_access fs mode a.0 a.1) (is_listed rest a.0 a.1) (is_listed (without rest) a.0 a.1) (listed_without rest a.0 a.1) parts.0) (once_without rest parts.1))
+      (λ e. once_without rest parts.1)
     where
       fewer : (s l w : Bool) → w ≡ (not s && l) → not l ≡ true → not w ≡ true
       fewer s l w e n = grind arith
 
-  length_without : (keys : List (List ℕ × Mode)) → is_listed keys fs mode ≡ true → suc (length (without keys)) ≡ length keys
-  length_without [] e = absurd (both_ways false refl e)
-  length_without (a ∷ rest) e =
-      cond_both (same_access fs mode a.0 a.1) rest (a ∷ without rest) (λ l. suc (length l) ≡ length (a ∷ rest)) (λ s. refl)
-      (λ s. ap suc (length_without rest (other-one (same_access a.0 a.1 fs mode) (is_listed rest fs mode) (access_comm a.0 a.1 fs mode ∙ s) e)))
+  none_gone : (keys : List (List ℕ × Mode)) → is_listed keys fs mode ≡ false → length (without keys) ≡ length keys
+  none_gone [] e = refl
+  none_gone (a ∷ rest) e =
+      let parts = or_parts (same_access a.0 a.1 fs mode) (is_listed rest fs mode) e in
+      ap length (cond-true (not (same_access fs mode a.0 a.1)) _ _ (ap not (access_comm fs mode a.0 a.1 ∙ parts.0)))
+      ∙ ap suc (none_gone rest parts.1)
+
+  length_without : (keys : List (List ℕ × Mode)) → listed_once keys ≡ true → is_listed keys fs mode ≡ true → suc (length (without keys)) ≡ length keys
+  length_without [] once e = absurd (both_ways false refl e)
+  length_without (a ∷ rest) once e =
+      let parts = and_parts (not (is_listed rest a.0 a.1)) (listed_once rest) once in
+      cond_both (not (same_access fs mode a.0 a.1)) (a ∷ without rest) (without rest) (λ l. suc (length l) ≡ length (a ∷ rest))
+      (λ s. ap suc (length_without rest parts.1 (other-one (same_access a.0 a.1 fs mode) (is_listed rest fs mode) (access_comm a.0 a.1 fs mode ∙ not-true _ s) e)))
+      (λ s. let equal = access_equal fs mode a.0 a.1 (was (same_access fs mode a.0 a.1) s) in
+      ap suc (none_gone rest (ap₂ (is_listed rest) equal.0 equal.1 ∙ not-true (is_listed rest a.0 a.1) parts.0)))
     where
       other-one : (h l : Bool) → h ≡ false → (h || l) ≡ true → l ≡ true
       other-one h l n s = grind arith
+
+      was : (h : Bool) → not h ≡ false → h ≡ true
+      was h e = grind arith
 
 -- no list but the empty one lists nothing
 none_listed : (keys : List (List ℕ × Mode)) → ((gs : List ℕ) (other : Mode) → is_listed keys gs other ≡ false) → length keys ≡ 0
@@ -102,10 +96,10 @@ listed_count (m ∷ ms) keys apart once same = at (λ fewer. listed_count ms few
     at rest (inr e) =
         let count = count_cons m ms in
         let here : is_listed keys m.fields m.mode ≡ true = same m.fields m.mode ∙ first (is_of m.fields m.mode m) (is_vacant m) (list_any (is_held_of m.fields m.mode) ms) (access_same m.fields m.mode) e in
-        sym (length_without m.fields m.mode keys here)
+        sym (length_without m.fields m.mode keys once here)
         ∙ ap suc
         (rest (without m.fields m.mode keys) (once_without m.fields m.mode keys once)
-        (λ gs other. listed_without m.fields m.mode keys once gs other ∙ held (is_of gs other m) (is_vacant m) (is_listed keys gs other) (list_any (is_held_of gs other) ms) e (same gs other) (none-later e gs other)))
+        (λ gs other. listed_without m.fields m.mode keys gs other ∙ held (is_of gs other m) (is_vacant m) (is_listed keys gs other) (list_any (is_held_of gs other) ms) e (same gs other) (none-later e gs other)))
         ∙ grind arith
       where
         first : (i v a : Bool) → i ≡ true → v ≡ false → ((i && not v) || a) ≡ true

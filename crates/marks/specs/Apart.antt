@@ -1,5 +1,5 @@
 -- Lists in which held marks are told apart. Assumes nothing.
-use Rattle.std.specs.Prelude.{ℕ, ◌^◌, ◌<◌, Bool, true, false, not, ◌&&◌, ◌||◌, List, [], ◌∷◌}
+use Rattle.std.specs.Prelude.{ℕ, ◌^◌, ◌<◌, Bool, true, not, ◌&&◌, ◌||◌, List, [], ◌∷◌}
 use Rattle.std.specs.List.{AllByRecursion, list_any}
 use Rattle.items.specs.declared.mode.Mode.{Mode}
 use Rattle.marks.specs.Marks.{MarkMeant, same_access, is_vacant, is_held_of}
@@ -11,8 +11,7 @@ told_apart (m ∷ ms) = (is_vacant m || not (list_any (is_held_of m.fields m.mod
 
 -- whether an access, by its fields and mode, is in a list of accesses
 abbrev pub is_listed : List (List ℕ × Mode) → List ℕ → Mode → Bool
-is_listed [] fs mode = false
-is_listed (a ∷ rest) fs mode = same_access a.0 a.1 fs mode || is_listed rest fs mode
+is_listed keys fs mode = list_any (λ a. same_access a.0 a.1 fs mode) keys
 
 -- whether no access is in the list twice
 abbrev pub listed_once : List (List ℕ × Mode) → Bool
