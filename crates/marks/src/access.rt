@@ -12,7 +12,7 @@ pub(crate) struct Access<I> {
 }
 
 impl<I: Kind + Copy> Access<I> {
-    // Whether both have the same item and the same mode.
+    // Whether both have the same item and the same mode; items are the same as their kind says, by their fields.
     pub(crate) fn is_same(&self, other: &Access<I>) -> bool
         ensures { result ≡ same_access (I.Kind.fields self.now.item) self.now.mode (I.Kind.fields other.now.item) other.now.mode }
     {

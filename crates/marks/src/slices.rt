@@ -48,7 +48,8 @@ pub(crate) fn is_own<I: Kind + Copy>(marks: &[Mark<I>], bay: u8, access: &Access
         .any(|mark| mark.is_of(access) && has_bay(mark.own, bay))
 }
 
-// Whether a bay holds the access as inherited.
+// Whether a bay holds the access as inherited. Own and inherited are a chain each: a test that is passed in would take more
+// clauses than the second chain.
 pub(crate) fn is_inherited<I: Kind + Copy>(marks: &[Mark<I>], bay: u8, access: &Access<I>) -> bool
     ensures { result ≡ holds_inherited (meant_marks I.Kind.fields marks.now) bay (I.Kind.fields access.now.item) access.now.mode }
 {
