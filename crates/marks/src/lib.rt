@@ -2,7 +2,6 @@
 #![tactic(auto)]
 
 mod access;
-mod holders;
 mod mark;
 mod mark_list;
 mod slices;

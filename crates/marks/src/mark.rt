@@ -4,8 +4,7 @@ ghost use Rattle.items.specs.declared.mode.Mode.TheVariants.{Look};
 ghost use Rattle.marks.specs.Marks.{meant_mark, is_vacant, is_of, holds_either, fresh_mark, vacated, joins, inherits, leaves, hands_on, reached};
 
 use crate::access::Access;
-use crate::holders::{minus_bay, plus_all, plus_bay};
-use boards::has_bay;
+use boards::{has_bay, with_bay, with_bays, without_bay};
 use items::{Kind, Mode};
 
 // A mark that no bay holds is vacant; its access then means nothing. Contracts say what a mark means by `meant_mark`: a
@@ -79,7 +78,7 @@ impl<I: Kind + Copy> Mark<I> {
         ensures { meant_mark I.Kind.fields result ≡ joins bay (meant_mark I.Kind.fields self) }
     {
         Mark {
-            own: plus_bay(self.own, bay),
+            own: with_bay(self.own, bay),
             ..self
         }
     }
@@ -92,7 +91,7 @@ impl<I: Kind + Copy> Mark<I> {
             return self;
         }
         Mark {
-            inherited: plus_all(self.inherited, takers),
+            inherited: with_bays(self.inherited, takers),
             ..self
         }
     }
@@ -102,8 +101,8 @@ impl<I: Kind + Copy> Mark<I> {
         ensures { meant_mark I.Kind.fields result ≡ leaves bay (meant_mark I.Kind.fields self) }
     {
         Mark {
-            own: minus_bay(self.own, bay),
-            inherited: minus_bay(self.inherited, bay),
+            own: without_bay(self.own, bay),
+            inherited: without_bay(self.inherited, bay),
             ..self
         }
     }
@@ -119,6 +118,6 @@ impl<I: Kind + Copy> Mark<I> {
     pub(crate) fn reached_from(&self, bay: u8) -> u32
         ensures { result ≡ reached bay (meant_mark I.Kind.fields self.now) }
     {
-        plus_all(self.inherited, minus_bay(self.own, bay))
+        with_bays(self.inherited, without_bay(self.own, bay))
     }
 }

@@ -8,9 +8,8 @@ ghost use Rattle.marks.specs.Steps.{AllChanged};
 ghost use Rattle.marks.specs.Against.{linked_by};
 
 use crate::access::Access;
-use crate::holders::plus_all;
 use crate::mark::Mark;
-use boards::has_bay;
+use boards::{has_bay, with_bays};
 use items::Kind;
 
 // A place in the list for an access.
@@ -72,7 +71,7 @@ pub(crate) fn bays_against<I: Kind + Copy>(marks: &[Mark<I>], bay: u8, access: &
     marks
         .iter()
         .filter(|mark| access.conflicts(&mark.access))
-        .fold(0, |bays, mark| plus_all(bays, mark.reached_from(bay)))
+        .fold(0, |bays, mark| with_bays(bays, mark.reached_from(bay)))
 }
 
 // Changes all marks.
