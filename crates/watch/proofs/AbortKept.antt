@@ -1,5 +1,5 @@
 -- An abort keeps the account: it takes away the paths that start or end at its transaction, and no others. Assumes nothing.
-use Rattle.std.proofs.Common.{◌≡◌, ℕ, ◌<◌, Bool, eqb, List, ◌∷◌, sym, refl, ap, ◌∙◌, subst, subst₂}
+use Rattle.std.proofs.Common.{◌≡◌, ℕ, ◌<◌, Bool, eqb, List, ◌∷◌, sym, refl, ap, ◌∙◌, subst, subst₂, Ok}
 use Rattle.items.specs.declared.entry.Event.TheVariants.{Abort}
 use Rattle.items.specs.declared.mode.Mode.{Mode}
 use Rattle.serial.proofs.ListFacts.{every_map}
@@ -7,7 +7,7 @@ use Rattle.marks.specs.Holding.{holds_own, holds_inherited}
 use Rattle.marks.specs.Apart.{told_apart, OnlyBays}
 use Rattle.marks.proofs.HoldsLaws.{leave_own, leave_inherited}
 use Rattle.marks.proofs.ApartLaws.{leave_apart, leave_bays}
-use Rattle.watch.specs.declared.answer.Answer.TheVariants.{Done}
+use Rattle.watch.specs.declared.answer.Outcome.TheVariants.{Done}
 use Rattle.watch.specs.Histories.{History, Call, is_open, ended, open_transaction, accesses}
 use Rattle.watch.specs.States.{State}
 use Rattle.watch.specs.Steps.{Step}
@@ -20,12 +20,12 @@ abbrev abort_of : ℕ → Call
 abort_of b = record { bay = b; event = Abort }
 
 module _ (overlapping : List ℕ → List ℕ → Bool) (conflicting : Mode → Mode → Bool) (h : History) (s t : State) (b : ℕ)
-    (was : Account overlapping conflicting h s) (step : Step overlapping conflicting s (abort_of b) Done t) where
+    (was : Account overlapping conflicting h s) (step : Step overlapping conflicting s (abort_of b) (Ok Done) t) where
   in_bay : b < s.bays
-  in_bay = (passed s (abort_of b) Done step.answer refl).1
+  in_bay = (passed s (abort_of b) (Ok Done) step.answer refl).1
 
   abbrev after : History
-  after = (abort_of b, Done) ∷ h
+  after = (abort_of b, Ok Done) ∷ h
 
   same : (k : ℕ) → (k ≡ b → ⊥) → open_transaction after k ≡ open_transaction h k
   same k = same_number k b (ended h k)
@@ -33,9 +33,9 @@ module _ (overlapping : List ℕ → List ℕ → Bool) (conflicting : Mode → 
   pub abort_kept : Account overlapping conflicting after t
   abort_kept =
       record {
-        bays_are_open_as_in_the_history = states_kept overlapping conflicting h s t (abort_of b) Done was step in_bay;
-        commits_are_counted = commits_kept overlapping conflicting h s t (abort_of b) Done was step in_bay;
-        aborts_are_counted = aborts_kept overlapping conflicting h s t (abort_of b) Done was step in_bay;
+        bays_are_open_as_in_the_history = states_kept overlapping conflicting h s t (abort_of b) (Ok Done) was step in_bay;
+        commits_are_counted = commits_kept overlapping conflicting h s t (abort_of b) (Ok Done) was step in_bay;
+        aborts_are_counted = aborts_kept overlapping conflicting h s t (abort_of b) (Ok Done) was step in_bay;
         verdict_is_crossed_once_a_commit_is = step.verdict ∙ was.verdict_is_crossed_once_a_commit_is;
         every_commit_is_right = (tt, was.every_commit_is_right);
         links_are_paths =
@@ -77,8 +77,8 @@ module _ (overlapping : List ℕ → List ℕ → Bool) (conflicting : Mode → 
         held_marks_are_told_apart = ap told_apart step.marks ∙ leave_apart b s.marks was.held_marks_are_told_apart;
         only_bays_hold_marks = subst OnlyBays (sym step.marks) (leave_bays b s.marks was.only_bays_hold_marks);
         open_bays_are_bays = λ k o. subst (λ n. k < n) (sym step.bays) (was.open_bays_are_bays k ((still_open k b _).0 o).1);
-        bays_are_few = few_kept overlapping conflicting h s t (abort_of b) Done was step in_bay;
-        bays_have_records = room_kept overlapping conflicting h s t (abort_of b) Done was step in_bay;
+        bays_are_few = few_kept overlapping conflicting h s t (abort_of b) (Ok Done) was step in_bay;
+        bays_have_records = room_kept overlapping conflicting h s t (abort_of b) (Ok Done) was step in_bay;
         accesses_are_numbered =
             every_map _ _
             (λ x. numbered_ended (eqb x.transaction.bay b) x.transaction.number (ended h x.transaction.bay) (is_open h x.transaction.bay))

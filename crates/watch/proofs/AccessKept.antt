@@ -1,5 +1,5 @@
 -- An access keeps the account: it adds paths into its own transaction alone, from those that hold a mark against it. Assumes nothing.
-use Rattle.std.proofs.Common.{◌≡◌, ℕ, ◌<◌, Bool, true, false, not, ◌&&◌, ◌||◌, eqb, ◌⊎◌, ◌↔◌, List, ◌∷◌, sym, refl, ap, ◌∙◌, subst, inl, inr, ⊎_elim}
+use Rattle.std.proofs.Common.{◌≡◌, ℕ, ◌<◌, Bool, true, false, not, ◌&&◌, ◌||◌, eqb, ◌⊎◌, ◌↔◌, List, ◌∷◌, sym, refl, ap, ◌∙◌, subst, inl, inr, ⊎_elim, Ok}
 use Rattle.std.proofs.lemmas.Bool.{and_from, and_parts, cases_Bool, eq-eqb, eqb-false, eqb-true, ne_eqb, not-true, or_cases, or_left, or_right}
 use Rattle.items.specs.declared.entry.Event.{Event}
 use Rattle.items.specs.declared.mode.Mode.{Mode}
@@ -15,7 +15,7 @@ use Rattle.marks.specs.Against.{linked_by}
 use Rattle.marks.proofs.AgainstLaws.{linked_decides}
 use Rattle.marks.proofs.HoldEffects.{hold_own, hold_inherited}
 use Rattle.marks.proofs.ApartLaws.{hold_apart, hold_bays}
-use Rattle.watch.specs.declared.answer.Answer.TheVariants.{Done}
+use Rattle.watch.specs.declared.answer.Outcome.TheVariants.{Done}
 use Rattle.watch.specs.Histories.{History, Call, Access, made_by, is_open, open_transaction, is_committed, accesses, has_crossed, conflict}
 use Rattle.watch.specs.States.{State}
 use Rattle.watch.specs.Steps.{Step, answer_in}
@@ -32,17 +32,17 @@ module _ (overlapping : List ℕ → List ℕ → Bool) (conflicting : Mode → 
     (mutual-overlap : (fs gs : List ℕ) → overlapping fs gs ≡ overlapping gs fs)
     (mutual-conflict : (m n : Mode) → conflicting m n ≡ conflicting n m)
     (h : History) (s t : State) (b : ℕ) (fs : List ℕ) (m : Mode)
-    (was : Account overlapping conflicting h s) (step : Step overlapping conflicting s (access_of b fs m) Done t) where
+    (was : Account overlapping conflicting h s) (step : Step overlapping conflicting s (access_of b fs m) (Ok Done) t) where
   in_bay : b < s.bays
-  in_bay = (passed s (access_of b fs m) Done step.answer refl).1
+  in_bay = (passed s (access_of b fs m) (Ok Done) step.answer refl).1
 
   is_open_lem : is_open h b ≡ true
   is_open_lem =
-      access_taken (is_open h b) Done b s m fs refl
-      ((passed s (access_of b fs m) Done step.answer refl).2 ∙ ap (λ x. answer_in x (Event.Access m fs) b s) (was.bays_are_open_as_in_the_history b))
+      access_taken (is_open h b) (Ok Done) b s m fs refl
+      ((passed s (access_of b fs m) (Ok Done) step.answer refl).2 ∙ ap (λ x. answer_in x (Event.Access m fs) b s) (was.bays_are_open_as_in_the_history b))
 
   abbrev after : History
-  after = (access_of b fs m, Done) ∷ h
+  after = (access_of b fs m, Ok Done) ∷ h
 
   abbrev new : Access
   new = record { transaction = open_transaction h b; fields = fs; mode = m }
@@ -156,9 +156,9 @@ module _ (overlapping : List ℕ → List ℕ → Bool) (conflicting : Mode → 
   pub access_kept : Account overlapping conflicting after t
   access_kept =
       record {
-        bays_are_open_as_in_the_history = states_kept overlapping conflicting h s t (access_of b fs m) Done was step in_bay;
-        commits_are_counted = commits_kept overlapping conflicting h s t (access_of b fs m) Done was step in_bay;
-        aborts_are_counted = aborts_kept overlapping conflicting h s t (access_of b fs m) Done was step in_bay;
+        bays_are_open_as_in_the_history = states_kept overlapping conflicting h s t (access_of b fs m) (Ok Done) was step in_bay;
+        commits_are_counted = commits_kept overlapping conflicting h s t (access_of b fs m) (Ok Done) was step in_bay;
+        aborts_are_counted = aborts_kept overlapping conflicting h s t (access_of b fs m) (Ok Done) was step in_bay;
         verdict_is_crossed_once_a_commit_is = step.verdict ∙ was.verdict_is_crossed_once_a_commit_is;
         every_commit_is_right = (tt, was.every_commit_is_right);
         links_are_paths = links_kept;
@@ -173,8 +173,8 @@ module _ (overlapping : List ℕ → List ℕ → Bool) (conflicting : Mode → 
         held_marks_are_told_apart = hold_apart b fs m s.marks t.marks true step.marks was.held_marks_are_told_apart;
         only_bays_hold_marks = hold_bays b fs m s.marks t.marks true step.marks was.only_bays_hold_marks;
         open_bays_are_bays = λ k o. subst (λ n. k < n) (sym step.bays) (was.open_bays_are_bays k o);
-        bays_are_few = few_kept overlapping conflicting h s t (access_of b fs m) Done was step in_bay;
-        bays_have_records = room_kept overlapping conflicting h s t (access_of b fs m) Done was step in_bay;
+        bays_are_few = few_kept overlapping conflicting h s t (access_of b fs m) (Ok Done) was step in_bay;
+        bays_have_records = room_kept overlapping conflicting h s t (access_of b fs m) (Ok Done) was step in_bay;
         accesses_are_numbered = every_push (Numbered h) (accesses h) new was.accesses_are_numbered (inr (refl, is_open_lem));
         committed_have_no_cycle =
             λ clean. subst (λ l. Cycle made_by (conflict overlapping conflicting) l → ⊥)

@@ -1,13 +1,13 @@
 -- States that give the account of one history, with as many bays and marks, answer alike. Assumes nothing.
-use Rattle.std.proofs.Common.{◌≡◌, ℕ, ◌<◌, Bool, true, false, cond, ltb, List, length, sym, refl, ap, ◌∙◌, arith}
+use Rattle.std.proofs.Common.{◌≡◌, ℕ, ◌<◌, Bool, true, false, cond, ltb, List, length, sym, refl, ap, ◌∙◌, arith, Ok}
 use Rattle.std.proofs.lemmas.Bool.{cond_both, ltb-true}
 use Rattle.std.proofs.lemmas.Bool.Decides.{same_from_decides}
 use Rattle.items.specs.declared.entry.Event.{Event}
 use Rattle.items.specs.declared.entry.Event.TheVariants.{Begin, Commit, Abort}
 use Rattle.items.specs.declared.mode.Mode.{Mode}
 use Rattle.items.specs.declared.refusal.Reason.TheVariants.{NoSuchBay, NoVacantMark}
-use Rattle.watch.specs.declared.answer.Answer.{Answer}
-use Rattle.watch.specs.declared.answer.Answer.TheVariants.{Done, Committed}
+use Rattle.watch.specs.Answers.{Answer}
+use Rattle.watch.specs.declared.answer.Outcome.TheVariants.{Done, Committed}
 use Rattle.watch.specs.Histories.{History, Call, is_open, has_crossed}
 use Rattle.watch.specs.States.{State, record_at}
 use Rattle.watch.specs.Steps.{refused_for, has_place, verdict_on, answer_in, answer_under, answer_to}
@@ -40,12 +40,12 @@ module _ (overlapping : List ℕ → List ℕ → Bool) (conflicting : Mode → 
     same_in b low Begin false = refl
     same_in b low Commit true =
         let few = was.bays_are_few in let below : b < 32 = omega arith in
-        ap (λ l. Committed (verdict_on l))
+        ap (λ l. Ok (Committed (verdict_on l)))
         (same_from_decides (s.links b b) (t.links b b) (was.links_are_paths clean b b below below) (also.links_are_paths clean b b below below))
     same_in b low Commit false = refl
     same_in b low Abort true = refl
     same_in b low Abort false = refl
-    same_in b low (Event.Access m fs) true = ap (λ x. cond x Done (refused_for NoVacantMark)) (same_place fs m)
+    same_in b low (Event.Access m fs) true = ap (λ x. cond x (Ok Done) (refused_for NoVacantMark)) (same_place fs m)
     same_in b low (Event.Access m fs) false = refl
 
   pub answers_agree : (c : Call) → answer_to s c ≡ answer_to t c

@@ -1,5 +1,5 @@
 -- What a call's answer says of the state before it. Assumes nothing.
-use Rattle.std.proofs.Common.{◌≡◌, ℕ, ◌<◌, Bool, true, false, cond, ltb, List, refl, ap}
+use Rattle.std.proofs.Common.{◌≡◌, ℕ, ◌<◌, Bool, true, false, cond, ltb, List, refl, ap, Ok, Err}
 use Rattle.std.proofs.lemmas.Bool.{both_ways, ltb-true}
 use Rattle.items.specs.declared.entry.Event.{Event}
 use Rattle.items.specs.declared.entry.Event.TheVariants.{Begin, Commit, Abort}
@@ -7,17 +7,17 @@ use Rattle.items.specs.declared.mode.Mode.{Mode}
 use Rattle.items.specs.declared.refusal.Reason.TheVariants.{NoSuchBay}
 use Rattle.watch.specs.declared.answer.Verdict.{Verdict}
 use Rattle.watch.specs.declared.answer.Verdict.TheVariants.{Clean, Crossed}
-use Rattle.watch.specs.declared.answer.Answer.{Answer}
-use Rattle.watch.specs.declared.answer.Answer.TheVariants.{Done, Committed, Refused}
+use Rattle.watch.specs.Answers.{Answer}
+use Rattle.watch.specs.declared.answer.Outcome.TheVariants.{Done, Committed}
 use Rattle.watch.specs.Histories.{Call}
 use Rattle.watch.specs.States.{State, record_at}
 use Rattle.watch.specs.Steps.{refused_for, verdict_on, answer_in, answer_under, answer_to}
 use Rattle.watch.specs.Accounts.{state_when, verdict_when}
 
 abbrev pub is_refused : Answer → Bool
-is_refused Done = false
-is_refused (Committed v) = false
-is_refused (Refused r) = true
+is_refused (Ok Done) = false
+is_refused (Ok (Committed v)) = false
+is_refused (Err r) = true
 
 -- A call that is not refused comes before a crossing, at a bay of the watch, and is answered by the bay's state and the event.
 pub passed : (s : State) (c : Call) (a : Answer) → a ≡ answer_to s c → is_refused a ≡ false →
@@ -43,7 +43,7 @@ begin_taken true a b s taken e = absurd (both_ways (is_refused a) taken (ap is_r
 begin_taken false a b s taken e = refl
 
 pub commit_taken : (o : Bool) (a : Answer) (b : ℕ) (s : State) → is_refused a ≡ false → a ≡ answer_in (state_when o) Commit b s →
-    (o ≡ true) × (a ≡ Committed (verdict_on (s.links b b)))
+    (o ≡ true) × (a ≡ Ok (Committed (verdict_on (s.links b b))))
 commit_taken true a b s taken e = (refl, e)
 commit_taken false a b s taken e = absurd (both_ways (is_refused a) taken (ap is_refused e))
 
@@ -58,29 +58,29 @@ access_taken false a b s m fs taken e = absurd (both_ways (is_refused a) taken (
 
 -- The verdict on a commit tells whether its bay links to itself.
 abbrev is_crossed : Answer → Bool
-is_crossed Done = false
-is_crossed (Committed Clean) = false
-is_crossed (Committed Crossed) = true
-is_crossed (Refused r) = false
+is_crossed (Ok Done) = false
+is_crossed (Ok (Committed Clean)) = false
+is_crossed (Ok (Committed Crossed)) = true
+is_crossed (Err r) = false
 
-pub clean_unlinked : (l : Bool) → Committed Clean ≡ Committed (verdict_on l) → l ≡ false
-clean_unlinked true e = absurd (both_ways (is_crossed (Committed Clean)) refl (ap is_crossed e))
+pub clean_unlinked : (l : Bool) → ◌≡◌ {A = Answer} (Ok (Committed Clean)) (Ok (Committed (verdict_on l))) → l ≡ false
+clean_unlinked true e = absurd (both_ways (is_crossed (Ok (Committed Clean))) refl (ap is_crossed e))
 clean_unlinked false e = refl
 
-pub crossed_linked : (l : Bool) → Committed Crossed ≡ Committed (verdict_on l) → l ≡ true
+pub crossed_linked : (l : Bool) → ◌≡◌ {A = Answer} (Ok (Committed Crossed)) (Ok (Committed (verdict_on l))) → l ≡ true
 crossed_linked true e = refl
-crossed_linked false e = absurd (both_ways (is_crossed (Committed Crossed)) (ap is_crossed e) refl)
+crossed_linked false e = absurd (both_ways (is_crossed (Ok (Committed Crossed))) (ap is_crossed e) refl)
 
 -- While the verdict is Clean no commit has crossed.
 pub uncrossed : (o : Bool) (v : Verdict) → v ≡ Clean → v ≡ verdict_when o → o ≡ false
-uncrossed true v clean e = absurd (both_ways (is_crossed (Committed v)) (ap (λ w. is_crossed (Committed w)) clean) (ap (λ w. is_crossed (Committed w)) e))
+uncrossed true v clean e = absurd (both_ways (is_crossed (Ok (Committed v))) (ap (λ w. is_crossed (Ok (Committed w))) clean) (ap (λ w. is_crossed (Ok (Committed w))) e))
 uncrossed false v clean e = refl
 
 -- No commit is done.
 abbrev is_done : Answer → Bool
-is_done Done = true
-is_done (Committed v) = false
-is_done (Refused r) = false
+is_done (Ok Done) = true
+is_done (Ok (Committed v)) = false
+is_done (Err r) = false
 
-pub done_uncommitted : (l : Bool) → Done ≡ Committed (verdict_on l) → ⊥
-done_uncommitted l e = both_ways (is_done Done) (ap is_done e) refl
+pub done_uncommitted : (l : Bool) → ◌≡◌ {A = Answer} (Ok Done) (Ok (Committed (verdict_on l))) → ⊥
+done_uncommitted l e = both_ways (is_done (Ok Done)) (ap is_done e) refl

@@ -9,7 +9,7 @@ use Rattle.items.specs.declared.refusal.Reason.{Reason}
 use Rattle.items.specs.declared.refusal.Reason.TheVariants.{AfterCrossing, NoSuchBay}
 use Rattle.watch.specs.declared.answer.Verdict.{Verdict}
 use Rattle.watch.specs.declared.answer.Verdict.TheVariants.{Clean, Crossed}
-use Rattle.watch.specs.declared.answer.Answer.{Answer}
+use Rattle.watch.specs.Answers.{Answer}
 use Rattle.watch.specs.declared.bay_record.BayState.{BayState}
 use Rattle.watch.specs.declared.bay_record.BayState.TheVariants.{Idle, Open}
 use Rattle.watch.specs.Histories.{Call}

@@ -1,5 +1,5 @@
 -- A begin keeps the account: the transaction that it opens has made no access, so no path leads from it or to it. Assumes nothing.
-use Rattle.std.proofs.Common.{◌≡◌, ℕ, ◌<◌, Bool, true, false, ◌||◌, eqb, List, ◌∷◌, sym, refl, ap, ◌∙◌, subst, ⊎_elim}
+use Rattle.std.proofs.Common.{◌≡◌, ℕ, ◌<◌, Bool, true, false, ◌||◌, eqb, List, ◌∷◌, sym, refl, ap, ◌∙◌, subst, ⊎_elim, Ok}
 use Rattle.std.proofs.lemmas.Bool.{eqb-true, or_cases, or_right}
 use Rattle.items.specs.declared.entry.Event.TheVariants.{Begin}
 use Rattle.items.specs.declared.mode.Mode.{Mode}
@@ -7,7 +7,7 @@ use Rattle.serial.specs.Lists.{Some}
 use Rattle.serial.proofs.ListFacts.{every_map, some_map}
 use Rattle.marks.specs.Holding.{holds_own, holds_inherited}
 use Rattle.marks.specs.Apart.{told_apart, OnlyBays}
-use Rattle.watch.specs.declared.answer.Answer.TheVariants.{Done}
+use Rattle.watch.specs.declared.answer.Outcome.TheVariants.{Done}
 use Rattle.watch.specs.Histories.{History, Call, made_by, is_open, ended, open_transaction, accesses}
 use Rattle.watch.specs.States.{State}
 use Rattle.watch.specs.Steps.{Step, answer_in}
@@ -20,14 +20,14 @@ abbrev begin_of : ℕ → Call
 begin_of b = record { bay = b; event = Begin }
 
 module _ (overlapping : List ℕ → List ℕ → Bool) (conflicting : Mode → Mode → Bool) (h : History) (s t : State) (b : ℕ)
-    (was : Account overlapping conflicting h s) (step : Step overlapping conflicting s (begin_of b) Done t) where
+    (was : Account overlapping conflicting h s) (step : Step overlapping conflicting s (begin_of b) (Ok Done) t) where
   in_bay : b < s.bays
-  in_bay = (passed s (begin_of b) Done step.answer refl).1
+  in_bay = (passed s (begin_of b) (Ok Done) step.answer refl).1
 
   idle : is_open h b ≡ false
   idle =
-      begin_taken (is_open h b) Done b s refl
-      ((passed s (begin_of b) Done step.answer refl).2 ∙ ap (λ x. answer_in x Begin b s) (was.bays_are_open_as_in_the_history b))
+      begin_taken (is_open h b) (Ok Done) b s refl
+      ((passed s (begin_of b) (Ok Done) step.answer refl).2 ∙ ap (λ x. answer_in x Begin b s) (was.bays_are_open_as_in_the_history b))
 
   -- A bay that is open now was open, unless its transaction made no access.
   was_open : (k : ℕ) → (eqb k b || is_open h k) ≡ true → Some (λ x. made_by x ≡ open_transaction h k) (accesses h) → is_open h k ≡ true
@@ -37,12 +37,12 @@ module _ (overlapping : List ℕ → List ℕ → Bool) (conflicting : Mode → 
       (λ e. e)
       (or_cases (eqb k b) (is_open h k) o)
 
-  pub begin_kept : Account overlapping conflicting ((begin_of b, Done) ∷ h) t
+  pub begin_kept : Account overlapping conflicting ((begin_of b, Ok Done) ∷ h) t
   begin_kept =
       record {
-        bays_are_open_as_in_the_history = states_kept overlapping conflicting h s t (begin_of b) Done was step in_bay;
-        commits_are_counted = commits_kept overlapping conflicting h s t (begin_of b) Done was step in_bay;
-        aborts_are_counted = aborts_kept overlapping conflicting h s t (begin_of b) Done was step in_bay;
+        bays_are_open_as_in_the_history = states_kept overlapping conflicting h s t (begin_of b) (Ok Done) was step in_bay;
+        commits_are_counted = commits_kept overlapping conflicting h s t (begin_of b) (Ok Done) was step in_bay;
+        aborts_are_counted = aborts_kept overlapping conflicting h s t (begin_of b) (Ok Done) was step in_bay;
         verdict_is_crossed_once_a_commit_is = step.verdict ∙ was.verdict_is_crossed_once_a_commit_is;
         every_commit_is_right = (tt, was.every_commit_is_right);
         links_are_paths =
@@ -74,8 +74,8 @@ module _ (overlapping : List ℕ → List ℕ → Bool) (conflicting : Mode → 
         open_bays_are_bays =
             λ k o. subst (λ n. k < n) (sym step.bays)
             (⊎_elim (λ e. subst (λ j. j < s.bays) (sym (eqb-true k b e)) in_bay) (was.open_bays_are_bays k) (or_cases (eqb k b) (is_open h k) o));
-        bays_are_few = few_kept overlapping conflicting h s t (begin_of b) Done was step in_bay;
-        bays_have_records = room_kept overlapping conflicting h s t (begin_of b) Done was step in_bay;
+        bays_are_few = few_kept overlapping conflicting h s t (begin_of b) (Ok Done) was step in_bay;
+        bays_have_records = room_kept overlapping conflicting h s t (begin_of b) (Ok Done) was step in_bay;
         accesses_are_numbered =
             every_map _ _
             (λ x. numbered_begun (eqb x.transaction.bay b) x.transaction.number (ended h x.transaction.bay) (is_open h x.transaction.bay))

@@ -1,5 +1,5 @@
 -- A commit that is Clean keeps the account: what led to its transaction now leads through it. Assumes nothing.
-use Rattle.std.proofs.Common.{◌≡◌, ℕ, ◌<◌, Bool, true, false, ◌&&◌, ◌||◌, eqb, ◌⊎◌, ◌↔◌, List, sym, ap, ◌∙◌, subst, subst₂, inl, inr, ⊎_elim}
+use Rattle.std.proofs.Common.{◌≡◌, ℕ, ◌<◌, Bool, true, false, ◌&&◌, ◌||◌, eqb, ◌⊎◌, ◌↔◌, List, sym, ap, ◌∙◌, subst, subst₂, inl, inr, ⊎_elim, Ok}
 use Rattle.std.proofs.lemmas.Bool.{and_from, and_parts, both_ways, lt-ltb, or_cases, or_left, or_right}
 use Rattle.items.specs.declared.mode.Mode.{Mode}
 use Rattle.serial.specs.Accesses.{Transaction}
@@ -16,7 +16,7 @@ use Rattle.marks.specs.Apart.{told_apart, OnlyBays}
 use Rattle.marks.proofs.HoldsLaws.{hand_on_own, hand_on_inherited}
 use Rattle.marks.proofs.ApartLaws.{hand_on_apart, hand_on_bays}
 use Rattle.watch.specs.declared.answer.Verdict.TheVariants.{Clean}
-use Rattle.watch.specs.declared.answer.Answer.TheVariants.{Committed}
+use Rattle.watch.specs.declared.answer.Outcome.TheVariants.{Committed}
 use Rattle.watch.specs.Histories.{History, made_by, is_open, ended, open_transaction, is_committed, accesses, committed_accesses, has_crossed, conflict}
 use Rattle.watch.specs.States.{State}
 use Rattle.watch.specs.Steps.{Step}
@@ -27,7 +27,7 @@ use Rattle.watch.proofs.CommitFacts.{commit_of, committed_to, commit_adds, other
 use Rattle.watch.proofs.TableKept.{states_kept, commits_kept, aborts_kept, few_kept, room_kept}
 
 module _ (overlapping : List ℕ → List ℕ → Bool) (conflicting : Mode → Mode → Bool) (h : History) (s t : State) (b : ℕ)
-    (was : Account overlapping conflicting h s) (step : Step overlapping conflicting s (commit_of b) (Committed Clean) t) where
+    (was : Account overlapping conflicting h s) (step : Step overlapping conflicting s (commit_of b) (Ok (Committed Clean)) t) where
   abbrev after : History
   after = committed_to Clean b h
 
@@ -124,9 +124,9 @@ module _ (overlapping : List ℕ → List ℕ → Bool) (conflicting : Mode → 
   pub clean_kept : Account overlapping conflicting after t
   clean_kept =
       record {
-        bays_are_open_as_in_the_history = states_kept overlapping conflicting h s t (commit_of b) (Committed Clean) was step in_bay;
-        commits_are_counted = commits_kept overlapping conflicting h s t (commit_of b) (Committed Clean) was step in_bay;
-        aborts_are_counted = aborts_kept overlapping conflicting h s t (commit_of b) (Committed Clean) was step in_bay;
+        bays_are_open_as_in_the_history = states_kept overlapping conflicting h s t (commit_of b) (Ok (Committed Clean)) was step in_bay;
+        commits_are_counted = commits_kept overlapping conflicting h s t (commit_of b) (Ok (Committed Clean)) was step in_bay;
+        aborts_are_counted = aborts_kept overlapping conflicting h s t (commit_of b) (Ok (Committed Clean)) was step in_bay;
         verdict_is_crossed_once_a_commit_is = step.verdict ∙ was.verdict_is_crossed_once_a_commit_is;
         every_commit_is_right =
             (no_cycle_serializable same_transaction_lem made_by (conflict overlapping conflicting) (committed_accesses after) no_cycle, was.every_commit_is_right);
@@ -169,8 +169,8 @@ module _ (overlapping : List ℕ → List ℕ → Bool) (conflicting : Mode → 
         held_marks_are_told_apart = ap told_apart step.marks ∙ hand_on_apart b (bays_into s.links b) s.marks was.held_marks_are_told_apart;
         only_bays_hold_marks = subst OnlyBays (sym step.marks) (hand_on_bays b (bays_into s.links b) s.marks was.only_bays_hold_marks);
         open_bays_are_bays = λ k o. subst (λ n. k < n) (sym step.bays) (was.open_bays_are_bays k ((still_open k b _).0 o).1);
-        bays_are_few = few_kept overlapping conflicting h s t (commit_of b) (Committed Clean) was step in_bay;
-        bays_have_records = room_kept overlapping conflicting h s t (commit_of b) (Committed Clean) was step in_bay;
+        bays_are_few = few_kept overlapping conflicting h s t (commit_of b) (Ok (Committed Clean)) was step in_bay;
+        bays_have_records = room_kept overlapping conflicting h s t (commit_of b) (Ok (Committed Clean)) was step in_bay;
         accesses_are_numbered =
             every_map _ _
             (λ x. numbered_ended (eqb x.transaction.bay b) x.transaction.number (ended h x.transaction.bay) (is_open h x.transaction.bay))

@@ -1,5 +1,5 @@
 -- What a commit says of the history before it and after it. Assumes nothing.
-use Rattle.std.proofs.Common.{◌≡◌, ℕ, ◌<◌, Bool, true, false, ◌⊎◌, ◌↔◌, List, ◌∷◌, refl, ap, ◌∙◌, inl, inr, ⊎_elim, arith}
+use Rattle.std.proofs.Common.{◌≡◌, ℕ, ◌<◌, Bool, true, false, ◌⊎◌, ◌↔◌, List, ◌∷◌, refl, ap, ◌∙◌, inl, inr, ⊎_elim, arith, Ok}
 use Rattle.std.proofs.lemmas.Bool.{or_cases, or_left, or_right}
 use Rattle.items.specs.declared.entry.Event.TheVariants.{Commit}
 use Rattle.items.specs.declared.mode.Mode.{Mode}
@@ -7,7 +7,8 @@ use Rattle.serial.specs.Paths.{Cycle}
 use Rattle.serial.specs.Changes.{Adds}
 use Rattle.serial.proofs.Effects.{cycle_adds}
 use Rattle.watch.specs.declared.answer.Verdict.{Verdict}
-use Rattle.watch.specs.declared.answer.Answer.TheVariants.{Committed}
+use Rattle.watch.specs.declared.answer.Outcome.TheVariants.{Committed}
+use Rattle.watch.specs.Answers.{Answer}
 use Rattle.watch.specs.Histories.{History, Call, made_by, is_open, ended, open_transaction, same_transaction, is_committed, accesses, committed_accesses, has_crossed, conflict}
 use Rattle.watch.specs.States.{State}
 use Rattle.watch.specs.Steps.{Step, answer_in, verdict_on}
@@ -19,7 +20,7 @@ abbrev pub commit_of : ℕ → Call
 commit_of b = record { bay = b; event = Commit }
 
 abbrev pub committed_to : Verdict → ℕ → History → History
-committed_to v b h = (commit_of b, Committed v) ∷ h
+committed_to v b h = (commit_of b, Ok (Committed v)) ∷ h
 
 -- The transaction of bay b joins the committed ones, and no other does.
 pub commit_adds : (v : Verdict) (b : ℕ) (h : History) → Adds (open_transaction h b) (is_committed h) (is_committed (committed_to v b h))
@@ -39,27 +40,27 @@ pub others_same : (v : Verdict) (b : ℕ) (h : History) (k : ℕ) → (k ≡ b �
 others_same v b h k = same_number k b (ended h k)
 
 module _ (overlapping : List ℕ → List ℕ → Bool) (conflicting : Mode → Mode → Bool) (h : History) (s t : State) (b : ℕ) (v : Verdict)
-    (was : Account overlapping conflicting h s) (step : Step overlapping conflicting s (commit_of b) (Committed v) t) where
+    (was : Account overlapping conflicting h s) (step : Step overlapping conflicting s (commit_of b) (Ok (Committed v)) t) where
   pub commit_in_bay : b < s.bays
-  commit_in_bay = (passed s (commit_of b) (Committed v) step.answer refl).1
+  commit_in_bay = (passed s (commit_of b) (Ok (Committed v)) step.answer refl).1
 
   pub commit_below : b < 32
   commit_below = let few = was.bays_are_few in let low = commit_in_bay in omega arith
 
-  answered : (is_open h b ≡ true) × (Committed v ≡ Committed (verdict_on (s.links b b)))
+  answered : (is_open h b ≡ true) × ◌≡◌ {A = Answer} (Ok (Committed v)) (Ok (Committed (verdict_on (s.links b b))))
   answered =
-      commit_taken (is_open h b) (Committed v) b s refl
-      ((passed s (commit_of b) (Committed v) step.answer refl).2 ∙ ap (λ x. answer_in x Commit b s) (was.bays_are_open_as_in_the_history b))
+      commit_taken (is_open h b) (Ok (Committed v)) b s refl
+      ((passed s (commit_of b) (Ok (Committed v)) step.answer refl).2 ∙ ap (λ x. answer_in x Commit b s) (was.bays_are_open_as_in_the_history b))
 
   pub commit_open : is_open h b ≡ true
   commit_open = answered.0
 
-  pub commit_verdict : Committed v ≡ Committed (verdict_on (s.links b b))
+  pub commit_verdict : ◌≡◌ {A = Answer} (Ok (Committed v)) (Ok (Committed (verdict_on (s.links b b))))
   commit_verdict = answered.1
 
   pub commit_uncrossed : has_crossed h ≡ false
   commit_uncrossed =
-      uncrossed (has_crossed h) s.verdict (passed s (commit_of b) (Committed v) step.answer refl).0 was.verdict_is_crossed_once_a_commit_is
+      uncrossed (has_crossed h) s.verdict (passed s (commit_of b) (Ok (Committed v)) step.answer refl).0 was.verdict_is_crossed_once_a_commit_is
 
   -- The committed accesses have a cycle now exactly when the bay links to itself.
   pub commit_cycle : Cycle made_by (conflict overlapping conflicting) (committed_accesses (committed_to v b h)) ↔ (s.links b b ≡ true)

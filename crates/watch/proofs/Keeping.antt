@@ -1,11 +1,11 @@
 -- Every step keeps the account. Assumes nothing.
-use Rattle.std.proofs.Common.{◌≡◌, ℕ, Bool, List, ◌∷◌, refl, ap, ◌∙◌, subst}
+use Rattle.std.proofs.Common.{◌≡◌, ℕ, Bool, List, ◌∷◌, refl, ap, ◌∙◌, subst, Ok, Err}
 use Rattle.items.specs.declared.entry.Event.{Event}
 use Rattle.items.specs.declared.entry.Event.TheVariants.{Begin, Commit, Abort}
 use Rattle.items.specs.declared.mode.Mode.{Mode}
 use Rattle.watch.specs.declared.answer.Verdict.TheVariants.{Clean, Crossed}
-use Rattle.watch.specs.declared.answer.Answer.{Answer}
-use Rattle.watch.specs.declared.answer.Answer.TheVariants.{Done, Committed, Refused}
+use Rattle.watch.specs.Answers.{Answer}
+use Rattle.watch.specs.declared.answer.Outcome.TheVariants.{Done, Committed}
 use Rattle.watch.specs.Histories.{History, Call, Nothing, effect_of, is_open}
 use Rattle.watch.specs.States.{State, LinksAgree}
 use Rattle.watch.specs.Steps.{Step, answer_in, links_after, MarksAfter, records_after, verdict_after}
@@ -39,11 +39,11 @@ module _ (overlapping : List ℕ → List ℕ → Bool) (conflicting : Mode → 
 
   -- A commit is never answered as a begin, an access or an abort is.
   never_done : (h : History) (s t : State) (b : ℕ) → Account overlapping conflicting h s →
-      Step overlapping conflicting s (record { bay = b; event = Commit }) Done t → ⊥
+      Step overlapping conflicting s (record { bay = b; event = Commit }) (Ok Done) t → ⊥
   never_done h s t b was step =
       done_uncommitted (s.links b b)
-      (commit_taken (is_open h b) Done b s refl
-      ((passed s (record { bay = b; event = Commit }) Done step.answer refl).2 ∙ ap (λ x. answer_in x Commit b s) (was.bays_are_open_as_in_the_history b))).1
+      (commit_taken (is_open h b) (Ok Done) b s refl
+      ((passed s (record { bay = b; event = Commit }) (Ok Done) step.answer refl).2 ∙ ap (λ x. answer_in x Commit b s) (was.bays_are_open_as_in_the_history b))).1
 
   pub account_kept : (h : History) (s t : State) (c : Call) (a : Answer) → Account overlapping conflicting h s →
       Step overlapping conflicting s c a t → Account overlapping conflicting ((c, a) ∷ h) t
@@ -51,16 +51,16 @@ module _ (overlapping : List ℕ → List ℕ → Bool) (conflicting : Mode → 
     where
       at : (b : ℕ) (e : Event (List ℕ)) (a : Answer) → Step overlapping conflicting s (record { bay = b; event = e }) a t →
           Account overlapping conflicting ((record { bay = b; event = e }, a) ∷ h) t
-      at b Begin Done step = begin_kept overlapping conflicting h s t b was step
-      at b Begin (Committed v) step = unaffected h s t _ _ refl tt was step
-      at b Begin (Refused r) step = unaffected h s t _ _ refl tt was step
-      at b Commit Done step = absurd (never_done h s t b was step)
-      at b Commit (Committed Clean) step = clean_kept overlapping conflicting h s t b was step
-      at b Commit (Committed Crossed) step = crossing_kept overlapping conflicting h s t b was step
-      at b Commit (Refused r) step = unaffected h s t _ _ refl tt was step
-      at b Abort Done step = abort_kept overlapping conflicting h s t b was step
-      at b Abort (Committed v) step = unaffected h s t _ _ refl tt was step
-      at b Abort (Refused r) step = unaffected h s t _ _ refl tt was step
-      at b (Event.Access m fs) Done step = access_kept overlapping conflicting mutual-overlap mutual-conflict h s t b fs m was step
-      at b (Event.Access m fs) (Committed v) step = unaffected h s t _ _ refl tt was step
-      at b (Event.Access m fs) (Refused r) step = unaffected h s t _ _ refl tt was step
+      at b Begin (Ok Done) step = begin_kept overlapping conflicting h s t b was step
+      at b Begin (Ok (Committed v)) step = unaffected h s t _ _ refl tt was step
+      at b Begin (Err r) step = unaffected h s t _ _ refl tt was step
+      at b Commit (Ok Done) step = absurd (never_done h s t b was step)
+      at b Commit (Ok (Committed Clean)) step = clean_kept overlapping conflicting h s t b was step
+      at b Commit (Ok (Committed Crossed)) step = crossing_kept overlapping conflicting h s t b was step
+      at b Commit (Err r) step = unaffected h s t _ _ refl tt was step
+      at b Abort (Ok Done) step = abort_kept overlapping conflicting h s t b was step
+      at b Abort (Ok (Committed v)) step = unaffected h s t _ _ refl tt was step
+      at b Abort (Err r) step = unaffected h s t _ _ refl tt was step
+      at b (Event.Access m fs) (Ok Done) step = access_kept overlapping conflicting mutual-overlap mutual-conflict h s t b fs m was step
+      at b (Event.Access m fs) (Ok (Committed v)) step = unaffected h s t _ _ refl tt was step
+      at b (Event.Access m fs) (Err r) step = unaffected h s t _ _ refl tt was step

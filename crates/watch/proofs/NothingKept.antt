@@ -6,7 +6,7 @@ use Rattle.serial.specs.Accesses.{Transaction}
 use Rattle.serial.specs.Paths.{PathIn, Cycle}
 use Rattle.serial.specs.Changes.{Made, Reaches, kept}
 use Rattle.marks.specs.Holding.{holds_inherited}
-use Rattle.watch.specs.declared.answer.Answer.{Answer}
+use Rattle.watch.specs.Answers.{Answer}
 use Rattle.watch.specs.Histories.{History, Call, Effect, Nothing, effect_of, is_begin, is_commit, is_end, is_crossing, is_open, ended, open_transaction, same_transaction, is_committed, Access, made_by, accesses_after, accesses, has_crossed, conflict}
 use Rattle.watch.specs.States.{State}
 use Rattle.watch.specs.Accounts.{Account, RightAnswer, is_access_to}

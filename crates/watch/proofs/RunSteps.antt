@@ -1,7 +1,7 @@
 -- A run with one call more, and from another beginning that is the same. Assumes nothing.
 use Rattle.std.proofs.Common.{◌≡◌, ℕ, Bool, List, [], ◌∷◌, ◌++◌, length, sym, refl, ◌∙◌, subst, arith}
 use Rattle.items.specs.declared.mode.Mode.{Mode}
-use Rattle.watch.specs.declared.answer.Answer.{Answer}
+use Rattle.watch.specs.Answers.{Answer}
 use Rattle.watch.specs.Histories.{Call, History, history_after, history_of}
 use Rattle.watch.specs.States.{State, SameState}
 use Rattle.watch.specs.Steps.{Step}

@@ -1,5 +1,5 @@
 -- The history settles when an access finds no mark. Assumes nothing.
-use Rattle.std.proofs.Common.{◌≡◌, ℕ, ◌<◌, ◌≤◌, Bool, true, false, cond, ◌||◌, ltb, ◌↔◌, List, length, Decides, sym, refl, ap, ◌∙◌, inl, inr, ⊎_elim, arith}
+use Rattle.std.proofs.Common.{◌≡◌, ℕ, ◌<◌, ◌≤◌, Bool, true, false, cond, ◌||◌, ltb, ◌↔◌, List, length, Decides, sym, refl, ap, ◌∙◌, inl, inr, ⊎_elim, arith, Ok}
 use Rattle.std.proofs.lemmas.Bool.{both_ways, cond-true, le-ltb, lt-ltb, ltb-false, or_cases, or_left, or_right}
 use Rattle.std.proofs.lemmas.Bool.Decides.{same_from_decides}
 use Rattle.items.specs.declared.entry.Event.{Event}
@@ -11,7 +11,7 @@ use Rattle.marks.specs.Holding.{holds_own, holds_inherited, held_count}
 use Rattle.marks.specs.Apart.{is_listed}
 use Rattle.marks.proofs.CountLaws.{count_within, vacant_when_fewer, held_decides}
 use Rattle.marks.proofs.ListedLaws.{listed_count}
-use Rattle.watch.specs.declared.answer.Answer.TheVariants.{Done}
+use Rattle.watch.specs.declared.answer.Outcome.TheVariants.{Done}
 use Rattle.watch.specs.Histories.{History, Call, is_open, has_crossed}
 use Rattle.watch.specs.States.{State, record_at}
 use Rattle.watch.specs.Steps.{refused_for, has_place, answer_in, answer_under, answer_to}
@@ -89,19 +89,19 @@ module _ (overlapping : List ℕ → List ℕ → Bool) (conflicting : Mode → 
         (answer_to s (record { bay = b; event = Event.Access m fs }) ≡ refused_for NoVacantMark) ↔
         ((HeldInHistory overlapping conflicting h fs m → ⊥) × (length held ≡ length s.marks))
     refused-settled b low o fs m =
-        (λ e. (place_settled fs m).0 (refused (has_place fs m s.marks) (sym here ∙ e)), λ r. here ∙ ap (λ x. cond x Done (refused_for NoVacantMark)) ((place_settled fs m).1 r))
+        (λ e. (place_settled fs m).0 (refused (has_place fs m s.marks) (sym here ∙ e)), λ r. here ∙ ap (λ x. cond x (Ok Done) (refused_for NoVacantMark)) ((place_settled fs m).1 r))
       where
         c : Call
         c = record { bay = b; event = Event.Access m fs }
 
-        here : answer_to s c ≡ cond (has_place fs m s.marks) Done (refused_for NoVacantMark)
+        here : answer_to s c ≡ cond (has_place fs m s.marks) (Ok Done) (refused_for NoVacantMark)
         here =
             ap (λ v. answer_under v c s) (was.verdict_is_crossed_once_a_commit_is ∙ ap verdict_when clean)
             ∙ cond-true (ltb b s.bays) (answer_in (record_at s.records b).state (Event.Access m fs) b s) (refused_for NoSuchBay) (lt-ltb b s.bays low)
             ∙ ap (λ st. answer_in st (Event.Access m fs) b s) (was.bays_are_open_as_in_the_history b ∙ ap state_when o)
 
-        refused : (x : Bool) → cond x Done (refused_for NoVacantMark) ≡ refused_for NoVacantMark → x ≡ false
-        refused true e = absurd (both_ways (is_refused Done) refl (ap is_refused e))
+        refused : (x : Bool) → cond x (Ok Done) (refused_for NoVacantMark) ≡ refused_for NoVacantMark → x ≡ false
+        refused true e = absurd (both_ways (is_refused (Ok Done)) refl (ap is_refused e))
         refused false e = refl
 
 pub vacancy_settled : (overlapping : List ℕ → List ℕ → Bool) (conflicting : Mode → Mode → Bool) (h : History) (s : State) →

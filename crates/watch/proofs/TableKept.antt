@@ -2,7 +2,7 @@
 use Rattle.std.proofs.Common.{◌≡◌, ℕ, ◌<◌, ◌≤◌, min, Bool, true, eqb, List, ◌∷◌, length, sym, ap, ◌∙◌, arith}
 use Rattle.std.proofs.lemmas.Bool.{eqb-true}
 use Rattle.items.specs.declared.mode.Mode.{Mode}
-use Rattle.watch.specs.declared.answer.Answer.{Answer}
+use Rattle.watch.specs.Answers.{Answer}
 use Rattle.watch.specs.Histories.{History, Call, effect_of, is_open, is_commit, is_abort, count}
 use Rattle.watch.specs.States.{State, record_at}
 use Rattle.watch.specs.Steps.{Step}

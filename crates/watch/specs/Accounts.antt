@@ -1,5 +1,5 @@
 -- What a state owes to the history that led to it. Assumes nothing.
-use Rattle.std.specs.Prelude.{◌≡◌, ℕ, ◌<◌, ◌≤◌, min, Bool, true, false, ◌⊎◌, ◌↔◌, List, [], ◌∷◌, length}
+use Rattle.std.specs.Prelude.{◌≡◌, ℕ, ◌<◌, ◌≤◌, min, Bool, true, false, ◌⊎◌, ◌↔◌, List, [], ◌∷◌, length, Ok, Err}
 use Rattle.items.specs.declared.entry.Event.{Event}
 use Rattle.items.specs.declared.entry.Event.TheVariants.{Begin, Commit, Abort}
 use Rattle.items.specs.declared.mode.Mode.{Mode}
@@ -13,10 +13,10 @@ use Rattle.marks.specs.Holding.{holds_own, holds_inherited}
 use Rattle.marks.specs.Apart.{told_apart, OnlyBays}
 use Rattle.watch.specs.declared.answer.Verdict.{Verdict}
 use Rattle.watch.specs.declared.answer.Verdict.TheVariants.{Clean, Crossed}
-use Rattle.watch.specs.declared.answer.Answer.{Answer}
-use Rattle.watch.specs.declared.answer.Answer.TheVariants.{Done, Committed, Refused}
+use Rattle.watch.specs.declared.answer.Outcome.TheVariants.{Done, Committed}
 use Rattle.watch.specs.declared.bay_record.BayState.{BayState}
 use Rattle.watch.specs.declared.bay_record.BayState.TheVariants.{Idle, Open}
+use Rattle.watch.specs.Answers.{Answer}
 use Rattle.watch.specs.Histories.{Call, History, Access, made_by, is_open, is_commit, is_abort, count, ended, open_transaction, is_committed, accesses, committed_accesses, has_crossed, conflict}
 use Rattle.watch.specs.States.{State, record_at}
 
@@ -61,10 +61,10 @@ module _ (overlapping : List ℕ → List ℕ → Bool) (conflicting : Mode → 
   -- serializable by interchange, Crossed if they are not, or refused.
   abbrev pub RightAnswer : Event (List ℕ) → Answer → History → Type 0
   RightAnswer Begin a h = Unit {0}
-  RightAnswer Commit Done h = ⊥
-  RightAnswer Commit (Committed Clean) h = CommittedSerializable h
-  RightAnswer Commit (Committed Crossed) h = CommittedSerializable h → ⊥
-  RightAnswer Commit (Refused r) h = Unit {0}
+  RightAnswer Commit (Ok Done) h = ⊥
+  RightAnswer Commit (Ok (Committed Clean)) h = CommittedSerializable h
+  RightAnswer Commit (Ok (Committed Crossed)) h = CommittedSerializable h → ⊥
+  RightAnswer Commit (Err r) h = Unit {0}
   RightAnswer Abort a h = Unit {0}
   RightAnswer (Event.Access m fs) a h = Unit {0}
 

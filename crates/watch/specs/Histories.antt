@@ -1,5 +1,5 @@
 -- The calls made since the opening with their answers, and what is read from them alone. Assumes nothing.
-use Rattle.std.specs.Prelude.{ℕ, suc, Bool, true, false, cond, not, ◌&&◌, ◌||◌, List, [], ◌∷◌, ◌++◌, ◌==◌}
+use Rattle.std.specs.Prelude.{ℕ, suc, Bool, true, false, cond, not, ◌&&◌, ◌||◌, List, [], ◌∷◌, ◌++◌, ◌==◌, Ok, Err}
 use Rattle.items.specs.declared.entry.Entry.{Entry}
 use Rattle.items.specs.declared.entry.Event.{Event}
 use Rattle.items.specs.declared.entry.Event.TheVariants.{Begin, Commit, Abort}
@@ -8,8 +8,8 @@ use Rattle.serial.specs.Accesses.{Transaction}
 use Rattle.serial.specs.Changes.{kept}
 use Rattle.watch.specs.declared.answer.Verdict.{Verdict}
 use Rattle.watch.specs.declared.answer.Verdict.TheVariants.{Clean, Crossed}
-use Rattle.watch.specs.declared.answer.Answer.{Answer}
-use Rattle.watch.specs.declared.answer.Answer.TheVariants.{Done, Committed, Refused}
+use Rattle.watch.specs.declared.answer.Outcome.TheVariants.{Done, Committed}
+use Rattle.watch.specs.Answers.{Answer}
 
 -- A call names a bay, by any number, and an event there, its item by the item's fields.
 abbrev pub Call : Type 0
@@ -29,18 +29,18 @@ pub data Effect : Type 0 where
 
 -- An event has its effect when it is answered as such an event is, and otherwise none.
 abbrev pub effect_of : Event (List ℕ) → Answer → Effect
-effect_of Begin Done = Begins
-effect_of Begin (Committed v) = Nothing
-effect_of Begin (Refused r) = Nothing
-effect_of Commit Done = Nothing
-effect_of Commit (Committed v) = Commits v
-effect_of Commit (Refused r) = Nothing
-effect_of Abort Done = Aborts
-effect_of Abort (Committed v) = Nothing
-effect_of Abort (Refused r) = Nothing
-effect_of (Event.Access m fs) Done = Accesses fs m
-effect_of (Event.Access m fs) (Committed v) = Nothing
-effect_of (Event.Access m fs) (Refused r) = Nothing
+effect_of Begin (Ok Done) = Begins
+effect_of Begin (Ok (Committed v)) = Nothing
+effect_of Begin (Err r) = Nothing
+effect_of Commit (Ok Done) = Nothing
+effect_of Commit (Ok (Committed v)) = Commits v
+effect_of Commit (Err r) = Nothing
+effect_of Abort (Ok Done) = Aborts
+effect_of Abort (Ok (Committed v)) = Nothing
+effect_of Abort (Err r) = Nothing
+effect_of (Event.Access m fs) (Ok Done) = Accesses fs m
+effect_of (Event.Access m fs) (Ok (Committed v)) = Nothing
+effect_of (Event.Access m fs) (Err r) = Nothing
 
 -- The effect of a call that was answered.
 abbrev pub effect : Call × Answer → Effect

@@ -1,5 +1,5 @@
 -- What a call answers, and what it leaves of a state with any list of marks. Assumes nothing.
-use Rattle.std.specs.Prelude.{◌≡◌, ℕ, suc, ◌<◌, min, Bool, true, false, cond, ◌&&◌, ◌||◌, List, ◌==◌, nat_lt, slice_set}
+use Rattle.std.specs.Prelude.{◌≡◌, ℕ, suc, ◌<◌, min, Bool, true, false, cond, ◌&&◌, ◌||◌, List, ◌==◌, nat_lt, slice_set, Ok, Err}
 use Rattle.items.specs.declared.entry.Event.{Event}
 use Rattle.items.specs.declared.entry.Event.TheVariants.{Begin, Commit, Abort}
 use Rattle.items.specs.declared.mode.Mode.{Mode}
@@ -15,11 +15,11 @@ use Rattle.marks.specs.Steps.{HoldStep, all_left, all_handed_on}
 use Rattle.marks.specs.Against.{linked_by}
 use Rattle.watch.specs.declared.answer.Verdict.{Verdict}
 use Rattle.watch.specs.declared.answer.Verdict.TheVariants.{Clean, Crossed}
-use Rattle.watch.specs.declared.answer.Answer.{Answer}
-use Rattle.watch.specs.declared.answer.Answer.TheVariants.{Done, Committed, Refused}
+use Rattle.watch.specs.declared.answer.Outcome.TheVariants.{Done, Committed}
 use Rattle.watch.specs.declared.bay_record.BayRecord.{BayRecord}
 use Rattle.watch.specs.declared.bay_record.BayState.{BayState}
 use Rattle.watch.specs.declared.bay_record.BayState.TheVariants.{Idle, Open}
+use Rattle.watch.specs.Answers.{Answer}
 use Rattle.watch.specs.Histories.{Call, Effect, Nothing, Begins, Accesses, Commits, Aborts, effect_of}
 use Rattle.watch.specs.States.{State, record_at, LinksAgree}
 
@@ -29,7 +29,7 @@ refusal_for reason = record { reason = reason; layer = Watch; entry = 0 }
 
 -- The answer that a call is refused for a reason.
 abbrev pub refused_for : Reason → Answer
-refused_for reason = Refused (refusal_for reason)
+refused_for reason = Err (refusal_for reason)
 
 -- Whether an access finds a mark: one is held with its fields and mode, or one is vacant.
 abbrev pub has_place : List ℕ → Mode → List MarkMeant → Bool
@@ -42,14 +42,14 @@ verdict_on false = Clean
 
 -- The answer to an event in bay b, by the state of the bay and the event together.
 abbrev pub answer_in : BayState → Event (List ℕ) → ℕ → State → Answer
-answer_in Idle Begin b s = Done
+answer_in Idle Begin b s = Ok Done
 answer_in Idle Commit b s = refused_for BayIdle
 answer_in Idle Abort b s = refused_for BayIdle
 answer_in Idle (Event.Access m fs) b s = refused_for BayIdle
 answer_in Open Begin b s = refused_for BayOpen
-answer_in Open Commit b s = Committed (verdict_on (s.links b b))
-answer_in Open Abort b s = Done
-answer_in Open (Event.Access m fs) b s = cond (has_place fs m s.marks) Done (refused_for NoVacantMark)
+answer_in Open Commit b s = Ok (Committed (verdict_on (s.links b b)))
+answer_in Open Abort b s = Ok Done
+answer_in Open (Event.Access m fs) b s = cond (has_place fs m s.marks) (Ok Done) (refused_for NoVacantMark)
 
 -- The answer to a call under a verdict: after a crossing, and where there is no such bay, it is refused.
 abbrev pub answer_under : Verdict → Call → State → Answer

@@ -6,7 +6,7 @@ ghost use Rattle.items.specs.Modes.{conflicting};
 ghost use Rattle.items.specs.declared.entry.Event.TheVariants.{Begin, Commit, Abort, Access};
 ghost use Rattle.watch.specs.Histories.{History};
 ghost use Rattle.watch.specs.Steps.{Step};
-ghost use Rattle.watch.specs.Answers.{done_or, verdict_or, done_of, verdict_of};
+ghost use Rattle.watch.specs.Answers.{done_or, verdict_or};
 ghost use Rattle.watch.specs.Watches.{state_of, call_of};
 ghost use Rattle.watch.specs.Accounts.{Account, Extends};
 ghost use Rattle.watch.specs.Vacancy.{VacancySettled};
@@ -15,27 +15,6 @@ use crate::answer::{Answer, Verdict};
 use crate::watch::Watch;
 use boards::Board;
 use items::{Event, Kind, Mode, Refusal};
-
-// What is told of the answer to a begin, an access or an abort.
-fn done_of(answer: Answer) -> Result<(), Refusal>
-    ensures { result ≡ done_of answer }
-{
-    match answer {
-        Answer::Refused(refusal) => Err(refusal),
-        _ => Ok(()),
-    }
-}
-
-// What is told of the answer to a commit.
-fn verdict_of(answer: Answer) -> Result<Verdict, Refusal>
-    ensures { result ≡ verdict_of answer }
-{
-    match answer {
-        Answer::Done => Ok(Verdict::Clean),
-        Answer::Committed(verdict) => Ok(verdict),
-        Answer::Refused(refusal) => Err(refusal),
-    }
-}
 
 impl<I: Kind + Copy, B: Board> Watch<'_, I, B> {
     // Makes one call: an event in a bay.
@@ -54,7 +33,8 @@ impl<I: Kind + Copy, B: Board> Watch<'_, I, B> {
         ensures account { Extends I.Kind.overlapping conflicting (state_of B.Board.linked I.Kind.fields self.old) (call_of bay Begin) (done_or result) (state_of B.Board.linked I.Kind.fields self.new) }
         ensures stays { self.new.marks.marks.ghost_name ≡ self.old.marks.marks.ghost_name }
     {
-        done_of(self.step(bay, Event::Begin))
+        self.call(bay, Event::Begin)?;
+        Ok(())
     }
 
     // Accesses an item in the transaction of a bay.
@@ -64,7 +44,8 @@ impl<I: Kind + Copy, B: Board> Watch<'_, I, B> {
         ensures stays { self.new.marks.marks.ghost_name ≡ self.old.marks.marks.ghost_name }
         ensures settled { (h : History) → Account I.Kind.overlapping conflicting h (state_of B.Board.linked I.Kind.fields self.old) → VacancySettled I.Kind.overlapping conflicting h (state_of B.Board.linked I.Kind.fields self.old) }
     {
-        done_of(self.step(bay, Event::Access(mode, item)))
+        self.call(bay, Event::Access(mode, item))?;
+        Ok(())
     }
 
     // Commits the transaction of a bay.
@@ -73,7 +54,8 @@ impl<I: Kind + Copy, B: Board> Watch<'_, I, B> {
         ensures account { Extends I.Kind.overlapping conflicting (state_of B.Board.linked I.Kind.fields self.old) (call_of bay Commit) (verdict_or result) (state_of B.Board.linked I.Kind.fields self.new) }
         ensures stays { self.new.marks.marks.ghost_name ≡ self.old.marks.marks.ghost_name }
     {
-        verdict_of(self.step(bay, Event::Commit))
+        let outcome = self.call(bay, Event::Commit)?;
+        Ok(outcome.verdict())
     }
 
     // Aborts the transaction of a bay.
@@ -82,6 +64,7 @@ impl<I: Kind + Copy, B: Board> Watch<'_, I, B> {
         ensures account { Extends I.Kind.overlapping conflicting (state_of B.Board.linked I.Kind.fields self.old) (call_of bay Abort) (done_or result) (state_of B.Board.linked I.Kind.fields self.new) }
         ensures stays { self.new.marks.marks.ghost_name ≡ self.old.marks.marks.ghost_name }
     {
-        done_of(self.step(bay, Event::Abort))
+        self.call(bay, Event::Abort)?;
+        Ok(())
     }
 }

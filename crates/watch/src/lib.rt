@@ -11,7 +11,7 @@ mod questions;
 mod run;
 mod watch;
 
-pub use answer::{Answer, Verdict};
+pub use answer::{Answer, Outcome, Verdict};
 pub use bay_record::{BayRecord, BayState};
 pub use run::{Run, RunError, run_calls, the_calls_of_a_run_settle_its_answers};
 pub use watch::Watch;

@@ -5,10 +5,10 @@ ghost use Rattle.items.specs.Entries.{event_meant};
 ghost use Rattle.items.specs.Modes.{conflicting};
 ghost use Rattle.items.specs.declared.entry.Event.TheVariants.{Commit, Abort, Access};
 ghost use Rattle.watch.specs.declared.bay_record.BayState.TheVariants.{Open};
-ghost use Rattle.watch.specs.Steps.{refusal_for, refused_for, Takes, Step};
+ghost use Rattle.watch.specs.Steps.{refusal_for, Takes, Step};
 ghost use Rattle.watch.specs.Watches.{state_of, call_of};
 
-use crate::answer::{Answer, Verdict};
+use crate::answer::{Answer, Outcome, Verdict};
 use crate::bay_record::BayState;
 use crate::bays::Bays;
 use crate::links::{link_between, link_to};
@@ -34,13 +34,6 @@ pub(crate) fn refusal(reason: Reason) -> Refusal
         layer: Layer::Watch,
         entry: 0,
     }
-}
-
-// The answer that a call is refused, for this reason.
-fn refused(reason: Reason) -> Answer
-    ensures { result ≡ refused_for reason }
-{
-    Answer::Refused(refusal(reason))
 }
 
 // Whether a bay links to itself.
@@ -85,10 +78,10 @@ impl<I: Kind + Copy, B: Board> Watch<'_, I, B> {
     {
         let froms = self.marks.linked_by(bay, &item, mode);
         if !self.marks.hold(bay, item, mode) {
-            return refused(Reason::NoVacantMark);
+            return Err(refusal(Reason::NoVacantMark));
         }
         link_to(&mut self.board, froms, bay);
-        Answer::Done
+        Ok(Outcome::Done)
     }
 
     // A commit in an open bay.
@@ -100,14 +93,14 @@ impl<I: Kind + Copy, B: Board> Watch<'_, I, B> {
         self.bays.commit(bay);
         if links_itself(&self.board, bay) {
             self.verdict = Verdict::Crossed;
-            return Answer::Committed(Verdict::Crossed);
+            return Ok(Outcome::Committed(Verdict::Crossed));
         }
         let froms = links_into(&self.board, bay);
         let tos = links_out(&self.board, bay);
         self.marks.hand_on(bay, froms);
         link_between(&mut self.board, froms, tos);
         let _ = self.board.drop_bay(bay);
-        Answer::Committed(Verdict::Clean)
+        Ok(Outcome::Committed(Verdict::Clean))
     }
 
     // An abort in an open bay.
@@ -119,7 +112,7 @@ impl<I: Kind + Copy, B: Board> Watch<'_, I, B> {
         self.bays.abort(bay);
         self.marks.leave(bay);
         let _ = self.board.drop_bay(bay);
-        Answer::Done
+        Ok(Outcome::Done)
     }
 
     // One call: an event in a bay.
@@ -128,18 +121,18 @@ impl<I: Kind + Copy, B: Board> Watch<'_, I, B> {
         ensures stays { self.new.marks.marks.ghost_name ≡ self.old.marks.marks.ghost_name }
     {
         if let Verdict::Crossed = self.verdict {
-            return refused(Reason::AfterCrossing);
+            return Err(refusal(Reason::AfterCrossing));
         }
         if !self.bays.has(bay) {
-            return refused(Reason::NoSuchBay);
+            return Err(refusal(Reason::NoSuchBay));
         }
         match (self.bays.get(bay).state, event) {
             (BayState::Idle, Event::Begin) => {
                 self.bays.begin(bay);
-                Answer::Done
+                Ok(Outcome::Done)
             }
-            (BayState::Idle, _) => refused(Reason::BayIdle),
-            (BayState::Open, Event::Begin) => refused(Reason::BayOpen),
+            (BayState::Idle, _) => Err(refusal(Reason::BayIdle)),
+            (BayState::Open, Event::Begin) => Err(refusal(Reason::BayOpen)),
             (BayState::Open, Event::Access(mode, item)) => self.access_in(bay, mode, item),
             (BayState::Open, Event::Commit) => self.commit_in(bay),
             (BayState::Open, Event::Abort) => self.abort_in(bay),
