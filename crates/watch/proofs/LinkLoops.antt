@@ -1,9 +1,10 @@
 -- Loops over the 32 bays that link those of a set, and what a commit leaves of the links. Assumes nothing.
-use Rattle.std.proofs.Common.{◌≡◌, ℕ, ◌+◌, ◌^◌, ◌<◌, ◌≤◌, Bool, true, false, not, ◌&&◌, ◌||◌, eqb, ltb, refl, ap, ◌∙◌, ⊎_elim, arith}
+use Rattle.std.proofs.Common.{◌≡◌, ℕ, ◌+◌, ◌^◌, ◌<◌, ◌≤◌, Bool, true, false, not, ◌&&◌, ◌||◌, eqb, ltb, refl, ap, ◌∙◌, ⊎_elim, arith, Ok, Err, Result}
 use Rattle.std.proofs.lemmas.Bool.{cases_eq, cases_lt, cond-true, and_from, lt-ltb}
 use Rattle.std.proofs.lemmas.Bool.Decides.{nat_tests}
+use Rattle.items.specs.declared.refusal.Refusal.{Refusal}
 use Rattle.boards.specs.BaySets.{bit}
-use Rattle.boards.specs.Boards.{Links, after_put, after_drop, bays_into, bays_out_of}
+use Rattle.boards.specs.Boards.{Links, no_such_bay, if_bay, after_put, after_drop, bays_into, bays_out_of}
 use Rattle.boards.proofs.BitLaws.{bit_beyond}
 use Rattle.boards.proofs.BoardLaws.{bit_into, bit_out}
 use Rattle.watch.specs.Steps.{with_links_between, joined_at}
@@ -39,6 +40,10 @@ all_linked x old set i p small past =
 -- a pair of bays that was put
 pub pair_put : (links : Links) (from to p q : ℕ) → from < 32 → to < 32 → after_put links from to p q ≡ ((eqb p from && eqb q to) || links p q)
 pair_put links from to p q some few = ap (λ (f : Links). f p q) (cond-true _ _ _ (and_from _ _ (lt-ltb from 32 some) (lt-ltb to 32 few)))
+
+-- what a board answers about a bay is not refused
+pub answered : {X : Type 0} (b : ℕ) (x y : X) (r : Result X Refusal) → b < 32 → r ≡ Ok x → r ≡ if_bay b y → x ≡ y
+answered b x y r bay is told = let same = cond-true (ltb b 32) (Ok y) (Err no_such_bay) (lt-ltb b 32 bay) in cc
 
 or_turned : (x y : Bool) → (x || y) ≡ (y || x)
 or_turned true true = refl
