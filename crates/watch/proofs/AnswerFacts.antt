@@ -57,30 +57,15 @@ access_taken true a b s m fs taken e = refl
 access_taken false a b s m fs taken e = absurd (both_ways (is_refused a) taken (ap is_refused e))
 
 -- The verdict on a commit tells whether its bay links to itself.
-abbrev is_crossed : Answer → Bool
-is_crossed (Ok Done) = false
-is_crossed (Ok (Committed Clean)) = false
-is_crossed (Ok (Committed Crossed)) = true
-is_crossed (Err r) = false
-
 pub clean_unlinked : (l : Bool) → ◌≡◌ {A = Answer} (Ok (Committed Clean)) (Ok (Committed (verdict_on l))) → l ≡ false
-clean_unlinked true e = absurd (both_ways (is_crossed (Ok (Committed Clean))) refl (ap is_crossed e))
+clean_unlinked true e = cc
 clean_unlinked false e = refl
 
 pub crossed_linked : (l : Bool) → ◌≡◌ {A = Answer} (Ok (Committed Crossed)) (Ok (Committed (verdict_on l))) → l ≡ true
 crossed_linked true e = refl
-crossed_linked false e = absurd (both_ways (is_crossed (Ok (Committed Crossed))) (ap is_crossed e) refl)
+crossed_linked false e = cc
 
 -- While the verdict is Clean no commit has crossed.
 pub uncrossed : (o : Bool) (v : Verdict) → v ≡ Clean → v ≡ verdict_when o → o ≡ false
-uncrossed true v clean e = absurd (both_ways (is_crossed (Ok (Committed v))) (ap (λ w. is_crossed (Ok (Committed w))) clean) (ap (λ w. is_crossed (Ok (Committed w))) e))
+uncrossed true v clean e = cc
 uncrossed false v clean e = refl
-
--- No commit is done.
-abbrev is_done : Answer → Bool
-is_done (Ok Done) = true
-is_done (Ok (Committed v)) = false
-is_done (Err r) = false
-
-pub done_uncommitted : (l : Bool) → ◌≡◌ {A = Answer} (Ok Done) (Ok (Committed (verdict_on l))) → ⊥
-done_uncommitted l e = both_ways (is_done (Ok Done)) (ap is_done e) refl

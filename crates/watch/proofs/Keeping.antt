@@ -10,7 +10,7 @@ use Rattle.watch.specs.Histories.{History, Call, Nothing, effect_of, is_open}
 use Rattle.watch.specs.States.{State, LinksAgree}
 use Rattle.watch.specs.Steps.{Step, answer_in, links_after, MarksAfter, records_after, verdict_after}
 use Rattle.watch.specs.Accounts.{Account, RightAnswer}
-use Rattle.watch.proofs.AnswerFacts.{passed, commit_taken, done_uncommitted}
+use Rattle.watch.proofs.AnswerFacts.{passed, commit_taken}
 use Rattle.watch.proofs.SameAccount.{same_account}
 use Rattle.watch.proofs.NothingKept.{nothing_kept}
 use Rattle.watch.proofs.BeginKept.{begin_kept}
@@ -41,9 +41,10 @@ module _ (overlapping : List ℕ → List ℕ → Bool) (conflicting : Mode → 
   never_done : (h : History) (s t : State) (b : ℕ) → Account overlapping conflicting h s →
       Step overlapping conflicting s (record { bay = b; event = Commit }) (Ok Done) t → ⊥
   never_done h s t b was step =
-      done_uncommitted (s.links b b)
+      let told =
       (commit_taken (is_open h b) (Ok Done) b s refl
-      ((passed s (record { bay = b; event = Commit }) (Ok Done) step.answer refl).2 ∙ ap (λ x. answer_in x Commit b s) (was.bays_are_open_as_in_the_history b))).1
+      ((passed s (record { bay = b; event = Commit }) (Ok Done) step.answer refl).2 ∙ ap (λ x. answer_in x Commit b s) (was.bays_are_open_as_in_the_history b))).1 in
+      cc
 
   pub account_kept : (h : History) (s t : State) (c : Call) (a : Answer) → Account overlapping conflicting h s →
       Step overlapping conflicting s c a t → Account overlapping conflicting ((c, a) ∷ h) t

@@ -18,7 +18,6 @@ pub mod Keeping
 pub mod RunFacts
 mod HeldFacts
 pub mod Settling
-pub mod AnswerForms
 mod RunSteps
 pub mod ModeFacts
 mod Agreement

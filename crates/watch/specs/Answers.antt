@@ -1,4 +1,4 @@
--- Answers to calls, also in the types of the calls that give them. Assumes nothing.
+-- Answers to calls, and their parts. Assumes nothing.
 use Rattle.std.specs.Prelude.{Ok, Err, Result}
 use Rattle.items.specs.declared.refusal.Refusal.{Refusal}
 use Rattle.watch.specs.declared.answer.Verdict.{Verdict}
@@ -24,13 +24,3 @@ verdict_or (Err r) = Err r
 abbrev pub verdict_left : Outcome → Verdict
 verdict_left Done = Clean
 verdict_left (Committed v) = v
-
--- What is told of the answer to a begin, an access or an abort, to which no verdict is given.
-abbrev pub done_of : Answer → Result (Unit {0}) Refusal
-done_of (Ok o) = Ok tt
-done_of (Err r) = Err r
-
--- What is told of the answer to a commit, which is never only done.
-abbrev pub verdict_of : Answer → Result Verdict Refusal
-verdict_of (Ok o) = Ok (verdict_left o)
-verdict_of (Err r) = Err r

@@ -1,9 +1,8 @@
 // The records of the bays of a watch.
-ghost use Rattle.std.specs.Prelude.{◌≡◌, ◌<◌, ◌≤◌, length, replicate, nat_lt};
-ghost use Rattle.watch.specs.declared.answer.Verdict.TheVariants.{Clean};
-ghost use Rattle.watch.specs.Histories.{Begins, Commits, Aborts};
+ghost use Rattle.std.specs.Prelude.{◌≡◌, ◌<◌, ◌≤◌, cond, length, replicate, nat_lt, slice_set, Some, None};
+ghost use Rattle.std.specs.Fn.{FnOnceReturnsAtMut};
+ghost use Rattle.watch.specs.declared.bay_record.BayRecord.{BayRecord};
 ghost use Rattle.watch.specs.States.{fresh_record, record_at};
-ghost use Rattle.watch.specs.Steps.{records_after};
 
 use crate::bay_record::{BayRecord, BayState};
 
@@ -38,45 +37,24 @@ impl Bays {
         }
     }
 
-    // Whether there is a bay of this number.
-    pub(crate) fn has(&self, bay: u8) -> bool
-        ensures { result ≡ nat_lt bay self.now.count }
+    // The record of a bay, if there is a bay of this number.
+    pub(crate) fn get(&self, bay: u8) -> Option<BayRecord>
+        ensures { result ≡ cond (nat_lt bay self.now.count) (Some (record_at self.now.records bay)) None }
     {
-        bay < self.count
+        if bay < self.count {
+            Some(self.records[bay as usize])
+        } else {
+            None
+        }
     }
 
-    // The record of a bay.
-    pub(crate) fn get(&self, bay: u8) -> BayRecord
-        requires { bay < self.now.count }
-        ensures { result ≡ record_at self.now.records bay }
-    {
-        self.records[bay as usize]
-    }
-
-    // A transaction begins in a bay.
-    pub(crate) fn begin(&mut self, bay: u8)
-        requires { bay < self.old.count }
-        ensures records { self.new.records ≡ records_after Begins bay self.old.records }
+    // Lends the record of a bay to be changed.
+    pub(crate) fn change<F: FnOnce(&mut BayRecord)>(&mut self, bay: u8, change: F)
+        requires within { bay < self.old.count }
+        requires callable { F.IsAlwaysCallable change }
+        ensures records { (after : BayRecord) × FnOnceReturnsAtMut F.FnOnce change (record_at self.old.records bay) tt after × (self.new.records ≡ slice_set self.old.records bay after) }
         ensures count { self.new.count ≡ self.old.count }
     {
-        self.records[bay as usize].begin();
-    }
-
-    // The transaction in a bay is committed, with whichever verdict.
-    pub(crate) fn commit(&mut self, bay: u8)
-        requires { bay < self.old.count }
-        ensures records { self.new.records ≡ records_after (Commits Clean) bay self.old.records }
-        ensures count { self.new.count ≡ self.old.count }
-    {
-        self.records[bay as usize].commit();
-    }
-
-    // The transaction in a bay is aborted.
-    pub(crate) fn abort(&mut self, bay: u8)
-        requires { bay < self.old.count }
-        ensures records { self.new.records ≡ records_after Aborts bay self.old.records }
-        ensures count { self.new.count ≡ self.old.count }
-    {
-        self.records[bay as usize].abort();
+        change(&mut self.records[bay as usize]);
     }
 }

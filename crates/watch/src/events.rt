@@ -54,8 +54,7 @@ impl<I: Kind + Copy, B: Board> Watch<'_, I, B> {
         ensures account { Extends I.Kind.overlapping conflicting (state_of B.Board.linked I.Kind.fields self.old) (call_of bay Commit) (verdict_or result) (state_of B.Board.linked I.Kind.fields self.new) }
         ensures stays { self.new.marks.marks.ghost_name ≡ self.old.marks.marks.ghost_name }
     {
-        let outcome = self.call(bay, Event::Commit)?;
-        Ok(outcome.verdict())
+        Ok(self.call(bay, Event::Commit)?.verdict())
     }
 
     // Aborts the transaction of a bay.

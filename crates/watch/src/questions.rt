@@ -22,19 +22,15 @@ impl<I: Kind + Copy, B: Board> Watch<'_, I, B> {
     pub fn bay(&self, bay: u8) -> Result<BayRecord, Refusal>
         ensures { result ≡ bay_told (state_of B.Board.linked I.Kind.fields self.now) bay }
     {
-        if !self.bays.has(bay) {
-            return Err(refusal(Reason::NoSuchBay));
-        }
-        Ok(self.bays.get(bay))
+        self.bays.get(bay).ok_or(refusal(Reason::NoSuchBay))
     }
 
     // Whether a bay links to a bay.
     pub fn links(&self, from: u8, to: u8) -> Result<bool, Refusal>
         ensures { result ≡ link_told (state_of B.Board.linked I.Kind.fields self.now) from to }
     {
-        if !self.bays.has(from) || !self.bays.has(to) {
-            return Err(refusal(Reason::NoSuchBay));
-        }
+        self.bay(from)?;
+        self.bay(to)?;
         self.board.has(from, to)
     }
 
@@ -42,9 +38,7 @@ impl<I: Kind + Copy, B: Board> Watch<'_, I, B> {
     pub fn holds_own(&self, bay: u8, item: &I, mode: Mode) -> Result<bool, Refusal>
         ensures { result ≡ own_told (state_of B.Board.linked I.Kind.fields self.now) bay (I.Kind.fields item.now) mode }
     {
-        if !self.bays.has(bay) {
-            return Err(refusal(Reason::NoSuchBay));
-        }
+        self.bay(bay)?;
         Ok(self.marks.holds_own(bay, item, mode))
     }
 
@@ -52,9 +46,7 @@ impl<I: Kind + Copy, B: Board> Watch<'_, I, B> {
     pub fn holds_inherited(&self, bay: u8, item: &I, mode: Mode) -> Result<bool, Refusal>
         ensures { result ≡ inherited_told (state_of B.Board.linked I.Kind.fields self.now) bay (I.Kind.fields item.now) mode }
     {
-        if !self.bays.has(bay) {
-            return Err(refusal(Reason::NoSuchBay));
-        }
+        self.bay(bay)?;
         Ok(self.marks.holds_inherited(bay, item, mode))
     }
 

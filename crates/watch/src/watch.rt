@@ -1,6 +1,5 @@
 // The watch: a link board, a mark list, the records of the bays and the verdict so far.
 ghost use Rattle.std.specs.Prelude.{◌≡◌, ℕ, ◌<◌, List};
-ghost use Rattle.boards.specs.Boards.{bays_into, bays_out_of};
 ghost use Rattle.items.specs.Entries.{event_meant};
 ghost use Rattle.items.specs.Modes.{conflicting};
 ghost use Rattle.items.specs.declared.entry.Event.TheVariants.{Commit, Abort, Access};
@@ -9,7 +8,7 @@ ghost use Rattle.watch.specs.Steps.{refusal_for, Takes, Step};
 ghost use Rattle.watch.specs.Watches.{state_of, call_of};
 
 use crate::answer::{Answer, Outcome, Verdict};
-use crate::bay_record::BayState;
+use crate::bay_record::{BayRecord, BayState};
 use crate::bays::Bays;
 use crate::links::{link_between, link_to};
 use boards::Board;
@@ -36,39 +35,6 @@ pub(crate) fn refusal(reason: Reason) -> Refusal
     }
 }
 
-// Whether a bay links to itself.
-fn links_itself<B: Board>(board: &B, bay: u8) -> bool
-    requires { bay < 32 }
-    ensures { result ≡ B.Board.linked board.now bay bay }
-{
-    match board.has(bay, bay) {
-        Ok(linked) => linked,
-        Err(_) => false,
-    }
-}
-
-// The bays that link to a bay.
-fn links_into<B: Board>(board: &B, bay: u8) -> u32
-    requires { bay < 32 }
-    ensures { result ≡ bays_into (B.Board.linked board.now) bay }
-{
-    match board.links_into(bay) {
-        Ok(bays) => bays,
-        Err(_) => 0,
-    }
-}
-
-// The bays that a bay links to.
-fn links_out<B: Board>(board: &B, bay: u8) -> u32
-    requires { bay < 32 }
-    ensures { result ≡ bays_out_of (B.Board.linked board.now) bay }
-{
-    match board.links_out(bay) {
-        Ok(bays) => bays,
-        Err(_) => 0,
-    }
-}
-
 impl<I: Kind + Copy, B: Board> Watch<'_, I, B> {
     // An access in an open bay.
     fn access_in(&mut self, bay: u8, mode: Mode, item: I) -> Answer
@@ -90,13 +56,13 @@ impl<I: Kind + Copy, B: Board> Watch<'_, I, B> {
         ensures step { Step I.Kind.overlapping conflicting (state_of B.Board.linked I.Kind.fields self.old) (call_of bay Commit) result (state_of B.Board.linked I.Kind.fields self.new) }
         ensures stays { self.new.marks.marks.ghost_name ≡ self.old.marks.marks.ghost_name }
     {
-        self.bays.commit(bay);
-        if links_itself(&self.board, bay) {
+        self.bays.change(bay, BayRecord::commit);
+        if self.board.has(bay, bay).unwrap() {
             self.verdict = Verdict::Crossed;
             return Ok(Outcome::Committed(Verdict::Crossed));
         }
-        let froms = links_into(&self.board, bay);
-        let tos = links_out(&self.board, bay);
+        let froms = self.board.links_into(bay).unwrap();
+        let tos = self.board.links_out(bay).unwrap();
         self.marks.hand_on(bay, froms);
         link_between(&mut self.board, froms, tos);
         let _ = self.board.drop_bay(bay);
@@ -109,7 +75,7 @@ impl<I: Kind + Copy, B: Board> Watch<'_, I, B> {
         ensures step { Step I.Kind.overlapping conflicting (state_of B.Board.linked I.Kind.fields self.old) (call_of bay Abort) result (state_of B.Board.linked I.Kind.fields self.new) }
         ensures stays { self.new.marks.marks.ghost_name ≡ self.old.marks.marks.ghost_name }
     {
-        self.bays.abort(bay);
+        self.bays.change(bay, BayRecord::abort);
         self.marks.leave(bay);
         let _ = self.board.drop_bay(bay);
         Ok(Outcome::Done)
@@ -123,12 +89,9 @@ impl<I: Kind + Copy, B: Board> Watch<'_, I, B> {
         if let Verdict::Crossed = self.verdict {
             return Err(refusal(Reason::AfterCrossing));
         }
-        if !self.bays.has(bay) {
-            return Err(refusal(Reason::NoSuchBay));
-        }
-        match (self.bays.get(bay).state, event) {
+        match (self.bay(bay)?.state, event) {
             (BayState::Idle, Event::Begin) => {
-                self.bays.begin(bay);
+                self.bays.change(bay, BayRecord::begin);
                 Ok(Outcome::Done)
             }
             (BayState::Idle, _) => Err(refusal(Reason::BayIdle)),
