@@ -9,7 +9,6 @@ mod AbortKept
 mod AccessFacts
 mod AccessKept
 mod LinkLoops
-mod OpenFacts
 mod CommitFacts
 mod CleanKept
 mod CrossingKept

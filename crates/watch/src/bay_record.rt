@@ -4,14 +4,15 @@ ghost use Rattle.watch.specs.declared.answer.Verdict.TheVariants.{Clean};
 ghost use Rattle.watch.specs.Histories.{Begins, Commits, Aborts};
 ghost use Rattle.watch.specs.Steps.{record_after};
 
-#[derive(Clone, Copy, Debug, PartialEq)]
+#[derive(Clone, Copy, Debug, Default, PartialEq)]
 pub enum BayState {
+    #[default]
     Idle,
     Open,
 }
 
 // Whether a transaction is open in the bay, and how many were committed and aborted there, up to 4,294,967,295.
-#[derive(Clone, Copy)]
+#[derive(Clone, Copy, Default)]
 pub struct BayRecord {
     pub state: BayState,
     pub commits: u32,

@@ -4,17 +4,10 @@ ghost use Rattle.std.specs.Fn.{FnOnceReturnsAtMut};
 ghost use Rattle.watch.specs.declared.bay_record.BayRecord.{BayRecord};
 ghost use Rattle.watch.specs.States.{fresh_record, record_at};
 
-use crate::bay_record::{BayRecord, BayState};
+use crate::bay_record::BayRecord;
 
 // How many bays a cradle may have.
 pub(crate) const MOST_BAYS: usize = 32;
-
-// The record of a bay in which nothing has happened.
-const FRESH: BayRecord = BayRecord {
-    state: BayState::Idle,
-    commits: 0,
-    aborts: 0,
-};
 
 // The first `count` records are those of the watch's bays.
 #[derive(Drop)]
@@ -32,7 +25,7 @@ impl Bays {
         ensures count { result.count ≡ count }
     {
         Bays {
-            records: [FRESH; MOST_BAYS],
+            records: [BayRecord::default(); MOST_BAYS],
             count,
         }
     }

@@ -12,7 +12,7 @@ pub(crate) fn link_to<B: Board>(board: &mut B, froms: u32, to: u8)
 {
     for from in 0..32u8 {
         if has_bay(froms, from) {
-            let _ = board.put(from, to);
+            board.put(from, to).unwrap();
         }
     }
 }

@@ -24,14 +24,12 @@ impl<'a, I: Kind + Copy, B: Board> Watch<'a, I, B> {
                 marks,
             });
         }
-        match MarkList::open(marks) {
-            Ok(marks) => Ok(Watch {
-                board: B::new(),
-                marks,
-                bays: Bays::idle(bays),
-                verdict: Verdict::Clean,
-            }),
-            Err(unopened) => Err(unopened),
-        }
+        let marks = MarkList::open(marks)?;
+        Ok(Watch {
+            board: B::new(),
+            marks,
+            bays: Bays::idle(bays),
+            verdict: Verdict::Clean,
+        })
     }
 }

@@ -7,13 +7,14 @@ ghost use Rattle.watch.specs.Histories.{History};
 ghost use Rattle.watch.specs.States.{State, opened_state};
 ghost use Rattle.watch.specs.Runs.{Run as RunTo, calls_of};
 ghost use Rattle.watch.specs.Ran.{Ran};
+ghost use Rattle.watch.specs.declared.run.RunError.TheVariants.{Unopened, OutOfMemory};
 
 use crate::answer::Answer;
 use crate::watch::Watch;
 use boards::Board;
 use items::{Entry, Kind};
 use marks::{Mark, Unopened};
-use std::alloc::Global;
+use std::alloc::{AllocFailed, Global};
 
 // The watch after a run, and the answers to the calls in their order.
 #[derive(Drop)]
@@ -29,6 +30,22 @@ pub enum RunError<'a, I> {
     OutOfMemory,
 }
 
+impl<'a, I> From<Unopened<'a, I>> for RunError<'a, I> {
+    ghost from_gives = { λ x y. y ≡ Unopened x };
+
+    fn from(unopened: Unopened<'a, I>) -> RunError<'a, I> {
+        RunError::Unopened(unopened)
+    }
+}
+
+impl<T: Drop, I> From<AllocFailed<T>> for RunError<'_, I> {
+    ghost from_gives = { λ _ y. y ≡ OutOfMemory };
+
+    fn from(_failed: AllocFailed<T>) -> Self {
+        RunError::OutOfMemory
+    }
+}
+
 // Opens a watch and makes these calls one after the other.
 pub fn run_calls<'a, I: Kind + Copy, B: Board + Drop>(
     heap: Global,
@@ -38,16 +55,11 @@ pub fn run_calls<'a, I: Kind + Copy, B: Board + Drop>(
 ) -> Result<Run<'a, I, B>, RunError<'a, I>>
     ensures { Ran I.Kind.overlapping tableConflicts B.Board.linked I.Kind.fields bays marks.old calls.now result }
 {
-    let mut watch = match Watch::open(bays, marks) {
-        Ok(watch) => watch,
-        Err(unopened) => return Err(RunError::Unopened(unopened)),
-    };
+    let mut watch = Watch::open(bays, marks)?;
     let mut answers = Vec::new(heap);
     for call in calls {
         let answer = watch.call(call.bay, call.event);
-        let Ok(()) = answers.push(answer) else {
-            return Err(RunError::OutOfMemory);
-        };
+        answers.push(answer)?;
     }
     Ok(Run { watch, answers })
 }

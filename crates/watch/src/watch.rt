@@ -1,8 +1,9 @@
 // The watch: a link board, a mark list, the records of the bays and the verdict so far.
-ghost use Rattle.std.specs.Prelude.{◌≡◌, ℕ, ◌<◌, List};
+ghost use Rattle.std.specs.Prelude.{◌≡◌, Ok};
 ghost use Rattle.items.specs.Entries.{event_meant};
 ghost use Rattle.items.specs.Modes.{conflicting};
 ghost use Rattle.items.specs.declared.entry.Event.TheVariants.{Commit, Abort, Access};
+ghost use Rattle.watch.specs.declared.answer.Outcome.TheVariants.{Done, Committed};
 ghost use Rattle.watch.specs.declared.bay_record.BayState.TheVariants.{Open};
 ghost use Rattle.watch.specs.Steps.{refusal_for, Takes, Step};
 ghost use Rattle.watch.specs.Watches.{state_of, call_of};
@@ -51,34 +52,33 @@ impl<I: Kind + Copy, B: Board> Watch<'_, I, B> {
     }
 
     // A commit in an open bay.
-    fn commit_in(&mut self, bay: u8) -> Answer
+    fn commit_in(&mut self, bay: u8) -> Verdict
         requires taken { Takes Open (state_of B.Board.linked I.Kind.fields self.old) bay }
-        ensures step { Step I.Kind.overlapping conflicting (state_of B.Board.linked I.Kind.fields self.old) (call_of bay Commit) result (state_of B.Board.linked I.Kind.fields self.new) }
+        ensures step { Step I.Kind.overlapping conflicting (state_of B.Board.linked I.Kind.fields self.old) (call_of bay Commit) (Ok (Committed result)) (state_of B.Board.linked I.Kind.fields self.new) }
         ensures stays { self.new.marks.marks.ghost_name ≡ self.old.marks.marks.ghost_name }
     {
         self.bays.change(bay, BayRecord::commit);
         if self.board.has(bay, bay).unwrap() {
             self.verdict = Verdict::Crossed;
-            return Ok(Outcome::Committed(Verdict::Crossed));
+            return Verdict::Crossed;
         }
         let froms = self.board.links_into(bay).unwrap();
         let tos = self.board.links_out(bay).unwrap();
         self.marks.hand_on(bay, froms);
         link_between(&mut self.board, froms, tos);
-        let _ = self.board.drop_bay(bay);
-        Ok(Outcome::Committed(Verdict::Clean))
+        self.board.drop_bay(bay).unwrap();
+        Verdict::Clean
     }
 
     // An abort in an open bay.
-    fn abort_in(&mut self, bay: u8) -> Answer
+    fn abort_in(&mut self, bay: u8)
         requires taken { Takes Open (state_of B.Board.linked I.Kind.fields self.old) bay }
-        ensures step { Step I.Kind.overlapping conflicting (state_of B.Board.linked I.Kind.fields self.old) (call_of bay Abort) result (state_of B.Board.linked I.Kind.fields self.new) }
+        ensures step { Step I.Kind.overlapping conflicting (state_of B.Board.linked I.Kind.fields self.old) (call_of bay Abort) (Ok Done) (state_of B.Board.linked I.Kind.fields self.new) }
         ensures stays { self.new.marks.marks.ghost_name ≡ self.old.marks.marks.ghost_name }
     {
         self.bays.change(bay, BayRecord::abort);
         self.marks.leave(bay);
-        let _ = self.board.drop_bay(bay);
-        Ok(Outcome::Done)
+        self.board.drop_bay(bay).unwrap();
     }
 
     // One call: an event in a bay.
@@ -97,8 +97,11 @@ impl<I: Kind + Copy, B: Board> Watch<'_, I, B> {
             (BayState::Idle, _) => Err(refusal(Reason::BayIdle)),
             (BayState::Open, Event::Begin) => Err(refusal(Reason::BayOpen)),
             (BayState::Open, Event::Access(mode, item)) => self.access_in(bay, mode, item),
-            (BayState::Open, Event::Commit) => self.commit_in(bay),
-            (BayState::Open, Event::Abort) => self.abort_in(bay),
+            (BayState::Open, Event::Commit) => { Ok(Outcome::Committed(self.commit_in(bay))) }
+            (BayState::Open, Event::Abort) => {
+                self.abort_in(bay);
+                Ok(Outcome::Done)
+            }
         }
     }
 }

@@ -14,7 +14,7 @@ pub loop-call-init : goal.loop-call-init
 loop-call-init g c =
     let state = state_of g.B.Board.linked g.I.Kind.fields in
     let none = c.new-answers.ensures.items in
-    (ap length none, (same_state (state c.in-Ok.watch), c.in-Ok.ensures.account))
+    (ap length none, (same_state (state c.in_ok-watch.watch), c.in_ok-watch.ensures.account))
 
 pub loop-call-preserved : goal.loop-call-preserved
 loop-call-preserved g c =
@@ -25,12 +25,12 @@ loop-call-preserved g c =
     let call = c.call-item.result in
     let before = state c.loop-call.watch in
     let after = state c.call-answer.new.self in
-    let first = state c.in-Ok.watch in
+    let first = state c.in_ok-watch.watch in
     let answers = vec_items c.loop-call.answers in
     let told = c.call-answer.ensures in
     let a = c.call-answer.result in
     let inv = c.loop-call.invariant in
-    let items : vec_items c.push.new.self ≡ answers ++ a ∷ [] = c.in-Ok-push.ensures.items in
+    let items : vec_items c.push.new.self ≡ answers ++ a ∷ [] = c.in_ok-push.ensures.items in
     let here : i < length calls = c.loop-call-test.true in
     let more : map meant (take (i + 1) calls) ≡ map meant (take i calls) ++ meant call ∷ [] =
     ap (map meant) (take_more calls i call here ∙ ap (λ x. take i calls ++ x ∷ []) (sym c.call-item.is)) ∙ map_push meant (take i calls) call in
@@ -49,6 +49,6 @@ returns g c =
     let all = take_all c.loop-call.call-index calls c.loop-call-test.false in
     record {
       answered = inv.0 ∙ omega (arith, c.loop-call.auto.call-index-end, c.loop-call-test.false);
-      accounted = accounted_from g.I.Kind.overlapping conflicting (state c.in-Ok.watch) (opened_state c.args.bays (meant_marks g.I.Kind.fields c.args.marks.now)) c.in-Ok.ensures.opens.1 _ _
-          (subst (λ l. AccountedRun g.I.Kind.overlapping conflicting (state c.in-Ok.watch) (history_of (map (entry_meant g.I.Kind.fields) l) (vec_items c.loop-call.answers)) (state c.loop-call.watch)) all inv.1);
+      accounted = accounted_from g.I.Kind.overlapping conflicting (state c.in_ok-watch.watch) (opened_state c.args.bays (meant_marks g.I.Kind.fields c.args.marks.now)) c.in_ok-watch.ensures.opens.1 _ _
+          (subst (λ l. AccountedRun g.I.Kind.overlapping conflicting (state c.in_ok-watch.watch) (history_of (map (entry_meant g.I.Kind.fields) l) (vec_items c.loop-call.answers)) (state c.loop-call.watch)) all inv.1);
     }
