@@ -6,7 +6,7 @@ ghost use Rattle.watch.specs.Watches.{call_of};
 ghost use Rattle.replay.specs.Summaries.{tally_of};
 
 use items::{Event, Kind};
-use watch::Answer;
+use watch::{Answer, Outcome};
 
 // How many calls there were, and how many of them committed and aborted.
 #[derive(Clone, Copy)]
@@ -35,12 +35,12 @@ impl Tally {
     {
         let entries = self.entries + 1;
         match (event, answer) {
-            (Event::Commit, Answer::Committed(_)) => Tally {
+            (Event::Commit, Ok(Outcome::Committed(_))) => Tally {
                 entries,
                 commits: self.commits + 1,
                 ..self
             },
-            (Event::Abort, Answer::Done) => Tally {
+            (Event::Abort, Ok(Outcome::Done)) => Tally {
                 entries,
                 aborts: self.aborts + 1,
                 ..self
