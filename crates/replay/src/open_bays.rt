@@ -14,24 +14,14 @@ use watch::{BayState, Watch};
 fn is_open<K: Kind + Copy, B: Board>(watch: &Watch<'_, K, B>, bay: u8) -> bool
     ensures { (h : History) → Account K.Kind.overlapping conflicting h (state_of B.Board.linked K.Kind.fields watch.now) → result ≡ is_open h bay }
 {
-    match watch.bay(bay) {
-        Ok(record) => match record.state {
-            BayState::Open => true,
-            BayState::Idle => false,
-        },
-        Err(_) => false,
-    }
+    watch
+        .bay(bay)
+        .is_ok_and(|record| record.state == BayState::Open)
 }
 
 // How many of the bays below a number are open.
 pub(crate) fn count_open<K: Kind + Copy, B: Board>(watch: &Watch<'_, K, B>, bays: u8) -> u64
     ensures { (h : History) → Account K.Kind.overlapping conflicting h (state_of B.Board.linked K.Kind.fields watch.now) → result ≡ open_below bays h }
 {
-    let mut open = 0;
-    for bay in 0..bays {
-        if is_open(watch, bay) {
-            open += 1;
-        }
-    }
-    open
+    (0..bays).filter(|bay| is_open(watch, *bay)).count() as u64
 }

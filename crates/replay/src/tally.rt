@@ -1,5 +1,5 @@
 // The calls made on a watch, counted as they are answered.
-ghost use Rattle.std.specs.Prelude.{◌≡◌, ℕ, ◌^◌, ◌<◌, [], ◌∷◌};
+ghost use Rattle.std.specs.Prelude.{◌≡◌, ℕ, ◌^◌, ◌<◌, ◌∷◌};
 ghost use Rattle.items.specs.Entries.{event_meant};
 ghost use Rattle.watch.specs.Histories.{History};
 ghost use Rattle.watch.specs.Watches.{call_of};
@@ -9,7 +9,7 @@ use items::{Event, Kind};
 use watch::{Answer, Outcome};
 
 // How many calls there were, and how many of them committed and aborted.
-#[derive(Clone, Copy)]
+#[derive(Clone, Copy, Default)]
 pub struct Tally {
     pub entries: u64,
     pub commits: u64,
@@ -17,17 +17,6 @@ pub struct Tally {
 }
 
 impl Tally {
-    // No call yet.
-    pub(crate) fn none() -> Tally
-        ensures { result ≡ tally_of [] }
-    {
-        Tally {
-            entries: 0,
-            commits: 0,
-            aborts: 0,
-        }
-    }
-
     // One call more, by its event and its answer.
     pub(crate) fn with<K: Kind>(self, event: &Event<K>, answer: &Answer) -> Tally
         requires { (self.entries < 2 ^ 32) × ((self.commits < 2 ^ 32) × (self.aborts < 2 ^ 32)) }
