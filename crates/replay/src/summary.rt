@@ -25,7 +25,7 @@ impl Summary {
         match self.crossing {
             None => line_of(heap, b"CLEAN", self.entries, &[commits, aborts, open]),
             Some(bay) => {
-                let numbers = [commits, aborts, open, bay as u64];
+                let numbers = [commits, aborts, open, u64::from(bay)];
                 line_of(heap, b"CROSSED", self.entries, &numbers)
             }
         }

@@ -2,7 +2,7 @@
 use Rattle.std.proofs.Common.{◌≡◌, ℕ, ◌<◌, Bool, true, false, cond, ltb, List, refl, ap, Ok, Err}
 use Rattle.std.proofs.lemmas.Bool.{both_ways, ltb-true}
 use Rattle.items.specs.declared.entry.Event.{Event}
-use Rattle.items.specs.declared.entry.Event.TheVariants.{Begin, Commit, Abort}
+use Rattle.items.specs.declared.entry.Event.TheVariants.{Begin, Commit}
 use Rattle.items.specs.declared.mode.Mode.{Mode}
 use Rattle.items.specs.declared.refusal.Reason.TheVariants.{NoSuchBay}
 use Rattle.watch.specs.declared.answer.Verdict.{Verdict}
@@ -46,10 +46,6 @@ pub commit_taken : (o : Bool) (a : Answer) (b : ℕ) (s : State) → is_refused 
     (o ≡ true) × (a ≡ Ok (Committed (verdict_on (s.links b b))))
 commit_taken true a b s taken e = (refl, e)
 commit_taken false a b s taken e = absurd (both_ways (is_refused a) taken (ap is_refused e))
-
-pub abort_taken : (o : Bool) (a : Answer) (b : ℕ) (s : State) → is_refused a ≡ false → a ≡ answer_in (state_when o) Abort b s → o ≡ true
-abort_taken true a b s taken e = refl
-abort_taken false a b s taken e = absurd (both_ways (is_refused a) taken (ap is_refused e))
 
 pub access_taken : (o : Bool) (a : Answer) (b : ℕ) (s : State) (m : Mode) (fs : List ℕ) → is_refused a ≡ false →
     a ≡ answer_in (state_when o) (Event.Access m fs) b s → o ≡ true
