@@ -23,7 +23,7 @@ use Rattle.watch.specs.Accounts.{Account, Path, MadeAccess, ReachesAccess, is_ac
 use Rattle.watch.proofs.HistoryFacts.{open_uncommitted, every_push}
 use Rattle.watch.proofs.AnswerFacts.{passed, access_taken}
 use Rattle.watch.proofs.AccessFacts.{kept_push, made_conflicting, conflicting_made}
-use Rattle.watch.proofs.TableKept.{states_kept, commits_kept, aborts_kept, few_kept, room_kept}
+use Rattle.watch.proofs.TableKept.{TableAccount, table_kept}
 
 abbrev access_of : ℕ → List ℕ → Mode → Call
 access_of b fs m = record { bay = b; event = Event.Access m fs }
@@ -153,12 +153,15 @@ module _ (overlapping : List ℕ → List ℕ → Bool) (conflicting : Mode → 
       (λ v c. made_push made_by (is_access_to gs other) (accesses h) new v (λ own. barred (subst (In (is_committed h)) (sym own) c)))
       (accesses h) new barred u
 
+  table : TableAccount after t
+  table = table_kept overlapping conflicting h s t (access_of b fs m) (Ok Done) was step in_bay
+
   pub access_kept : Account overlapping conflicting after t
   access_kept =
       record {
-        bays_are_open_as_in_the_history = states_kept overlapping conflicting h s t (access_of b fs m) (Ok Done) was step in_bay;
-        commits_are_counted = commits_kept overlapping conflicting h s t (access_of b fs m) (Ok Done) was step in_bay;
-        aborts_are_counted = aborts_kept overlapping conflicting h s t (access_of b fs m) (Ok Done) was step in_bay;
+        bays_are_open_as_in_the_history = table.states;
+        commits_are_counted = table.commits;
+        aborts_are_counted = table.aborts;
         verdict_is_crossed_once_a_commit_is = step.verdict ∙ was.verdict_is_crossed_once_a_commit_is;
         every_commit_is_right = (tt, was.every_commit_is_right);
         links_are_paths = links_kept;
@@ -173,8 +176,8 @@ module _ (overlapping : List ℕ → List ℕ → Bool) (conflicting : Mode → 
         held_marks_are_told_apart = hold_apart b fs m s.marks t.marks true step.marks was.held_marks_are_told_apart;
         only_bays_hold_marks = hold_bays b fs m s.marks t.marks true step.marks was.only_bays_hold_marks;
         open_bays_are_bays = λ k o. subst (λ n. k < n) (sym step.bays) (was.open_bays_are_bays k o);
-        bays_are_few = few_kept overlapping conflicting h s t (access_of b fs m) (Ok Done) was step in_bay;
-        bays_have_records = room_kept overlapping conflicting h s t (access_of b fs m) (Ok Done) was step in_bay;
+        bays_are_few = table.few;
+        bays_have_records = table.room;
         accesses_are_numbered = every_push (Numbered h) (accesses h) new was.accesses_are_numbered (inr (refl, is_open_lem));
         committed_have_no_cycle =
             λ clean. subst (λ l. Cycle made_by (conflict overlapping conflicting) l → ⊥)

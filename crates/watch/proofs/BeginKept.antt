@@ -14,7 +14,7 @@ use Rattle.watch.specs.Steps.{Step, answer_in}
 use Rattle.watch.specs.Accounts.{Account}
 use Rattle.watch.proofs.HistoryFacts.{idle_unmade, path_from, path_to, numbered_begun}
 use Rattle.watch.proofs.AnswerFacts.{passed, begin_taken}
-use Rattle.watch.proofs.TableKept.{states_kept, commits_kept, aborts_kept, few_kept, room_kept}
+use Rattle.watch.proofs.TableKept.{TableAccount, table_kept}
 
 abbrev begin_of : ℕ → Call
 begin_of b = record { bay = b; event = Begin }
@@ -37,12 +37,15 @@ module _ (overlapping : List ℕ → List ℕ → Bool) (conflicting : Mode → 
       (λ e. e)
       (or_cases (eqb k b) (is_open h k) o)
 
+  table : TableAccount ((begin_of b, Ok Done) ∷ h) t
+  table = table_kept overlapping conflicting h s t (begin_of b) (Ok Done) was step in_bay
+
   pub begin_kept : Account overlapping conflicting ((begin_of b, Ok Done) ∷ h) t
   begin_kept =
       record {
-        bays_are_open_as_in_the_history = states_kept overlapping conflicting h s t (begin_of b) (Ok Done) was step in_bay;
-        commits_are_counted = commits_kept overlapping conflicting h s t (begin_of b) (Ok Done) was step in_bay;
-        aborts_are_counted = aborts_kept overlapping conflicting h s t (begin_of b) (Ok Done) was step in_bay;
+        bays_are_open_as_in_the_history = table.states;
+        commits_are_counted = table.commits;
+        aborts_are_counted = table.aborts;
         verdict_is_crossed_once_a_commit_is = step.verdict ∙ was.verdict_is_crossed_once_a_commit_is;
         every_commit_is_right = (tt, was.every_commit_is_right);
         links_are_paths =
@@ -74,8 +77,8 @@ module _ (overlapping : List ℕ → List ℕ → Bool) (conflicting : Mode → 
         open_bays_are_bays =
             λ k o. subst (λ n. k < n) (sym step.bays)
             (⊎_elim (λ e. subst (λ j. j < s.bays) (sym (eqb-true k b e)) in_bay) (was.open_bays_are_bays k) (or_cases (eqb k b) (is_open h k) o));
-        bays_are_few = few_kept overlapping conflicting h s t (begin_of b) (Ok Done) was step in_bay;
-        bays_have_records = room_kept overlapping conflicting h s t (begin_of b) (Ok Done) was step in_bay;
+        bays_are_few = table.few;
+        bays_have_records = table.room;
         accesses_are_numbered =
             every_map _ _
             (λ x. numbered_begun (eqb x.transaction.bay b) x.transaction.number (ended h x.transaction.bay) (is_open h x.transaction.bay))

@@ -1,10 +1,9 @@
 -- A commit that is Clean keeps the account: what led to its transaction now leads through it. Assumes nothing.
-use Rattle.std.proofs.Common.{◌≡◌, ℕ, ◌<◌, Bool, true, false, ◌&&◌, ◌||◌, eqb, ◌⊎◌, ◌↔◌, List, sym, ap, ◌∙◌, subst, subst₂, inl, inr, ⊎_elim, Ok}
+use Rattle.std.proofs.Common.{◌≡◌, ℕ, ◌<◌, Bool, true, false, ◌&&◌, ◌||◌, ◌⊎◌, ◌↔◌, List, sym, ap, ◌∙◌, subst, inl, inr, ⊎_elim, Ok}
 use Rattle.std.proofs.lemmas.Bool.{and_from, and_parts, both_ways, lt-ltb, or_cases, or_left, or_right}
 use Rattle.items.specs.declared.mode.Mode.{Mode}
 use Rattle.serial.specs.Accesses.{Transaction}
 use Rattle.serial.specs.Paths.{Cycle}
-use Rattle.serial.proofs.ListFacts.{every_map}
 use Rattle.serial.proofs.Effects.{path_adds, reaches_adds}
 use Rattle.serial.proofs.SameTransaction.{same_transaction_lem}
 use Rattle.serial.proofs.Serializing.{no_cycle_serializable}
@@ -17,14 +16,15 @@ use Rattle.marks.proofs.HoldsLaws.{hand_on_own, hand_on_inherited}
 use Rattle.marks.proofs.ApartLaws.{hand_on_apart, hand_on_bays}
 use Rattle.watch.specs.declared.answer.Verdict.TheVariants.{Clean}
 use Rattle.watch.specs.declared.answer.Outcome.TheVariants.{Committed}
-use Rattle.watch.specs.Histories.{History, made_by, is_open, ended, open_transaction, is_committed, accesses, committed_accesses, has_crossed, conflict}
+use Rattle.watch.specs.Histories.{History, made_by, is_open, open_transaction, is_committed, accesses, committed_accesses, has_crossed, conflict}
 use Rattle.watch.specs.States.{State}
 use Rattle.watch.specs.Steps.{Step}
 use Rattle.watch.specs.Accounts.{Account, Path, MadeAccess, ReachesAccess}
-use Rattle.watch.proofs.HistoryFacts.{still_open, apart_from, numbered_ended}
+use Rattle.watch.proofs.HistoryFacts.{still_open}
+use Rattle.watch.proofs.EndedFacts.{held_past, linked_past, numbered_past}
 use Rattle.watch.proofs.AnswerFacts.{clean_unlinked}
-use Rattle.watch.proofs.CommitFacts.{commit_of, committed_to, commit_adds, others_same, commit_in_bay, commit_below, commit_open, commit_verdict, commit_cycle}
-use Rattle.watch.proofs.TableKept.{states_kept, commits_kept, aborts_kept, few_kept, room_kept}
+use Rattle.watch.proofs.CommitFacts.{commit_of, committed_to, commit_adds, commit_in_bay, commit_below, commit_open, commit_verdict, commit_cycle}
+use Rattle.watch.proofs.TableKept.{TableAccount, table_kept}
 
 module _ (overlapping : List ℕ → List ℕ → Bool) (conflicting : Mode → Mode → Bool) (h : History) (s t : State) (b : ℕ)
     (was : Account overlapping conflicting h s) (step : Step overlapping conflicting s (commit_of b) (Ok (Committed Clean)) t) where
@@ -39,9 +39,6 @@ module _ (overlapping : List ℕ → List ℕ → Bool) (conflicting : Mode → 
 
   is_open_lem : is_open h b ≡ true
   is_open_lem = commit_open overlapping conflicting h s t b Clean was step
-
-  same : (k : ℕ) → (k ≡ b → ⊥) → open_transaction after k ≡ open_transaction h k
-  same = others_same Clean b h
 
   no_cycle : Cycle made_by (conflict overlapping conflicting) (committed_accesses after) → ⊥
   no_cycle c =
@@ -121,59 +118,33 @@ module _ (overlapping : List ℕ → List ℕ → Bool) (conflicting : Mode → 
       back o (inr (path, held)) =
           or_right (holds_inherited s.marks k fs m) _ (and_from _ _ (taker ∙ (was.links_are_paths clean k b low below).1 (o, is_open_lem, path)) (held_by held))
 
+  table : TableAccount after t
+  table = table_kept overlapping conflicting h s t (commit_of b) (Ok (Committed Clean)) was step in_bay
+
   pub clean_kept : Account overlapping conflicting after t
   clean_kept =
       record {
-        bays_are_open_as_in_the_history = states_kept overlapping conflicting h s t (commit_of b) (Ok (Committed Clean)) was step in_bay;
-        commits_are_counted = commits_kept overlapping conflicting h s t (commit_of b) (Ok (Committed Clean)) was step in_bay;
-        aborts_are_counted = aborts_kept overlapping conflicting h s t (commit_of b) (Ok (Committed Clean)) was step in_bay;
+        bays_are_open_as_in_the_history = table.states;
+        commits_are_counted = table.commits;
+        aborts_are_counted = table.aborts;
         verdict_is_crossed_once_a_commit_is = step.verdict ∙ was.verdict_is_crossed_once_a_commit_is;
         every_commit_is_right =
             (no_cycle_serializable same_transaction_lem made_by (conflict overlapping conflicting) (committed_accesses after) no_cycle, was.every_commit_is_right);
         links_are_paths =
-            λ clean p q lp lq.
-            let join = joined clean p q lp lq in let e = step.links p q lp lq in
-            let but = apart_from p q b (s.links p q || (s.links p b && s.links b q)) in (
-              λ k.
-                  let there = but.0 (sym e ∙ k) in let r = join.0 there.2 in (
-                    (still_open p b _).1 (there.0, r.0),
-                    (still_open q b _).1 (there.1, r.1),
-                    subst₂ (Path overlapping conflicting after) (sym (same p there.0)) (sym (same q there.1)) r.2,
-                  ),
-              λ r.
-                  let op = (still_open p b _).0 r.0 in let oq = (still_open q b _).0 r.1 in
-                  e ∙ but.1 (op.0, oq.0, join.1 (op.1, oq.1, subst₂ (Path overlapping conflicting after) (same p op.0) (same q oq.0) r.2)),
-            );
+            λ clean p q lp lq. linked_past h b (Path overlapping conflicting after) p q _ _ (step.links p q lp lq) (joined clean p q lp lq);
         own_marks_are_accesses_of_the_open_transaction =
             λ clean k lk fs m.
-            let old = was.own_marks_are_accesses_of_the_open_transaction clean k lk fs m in
-            let e = ap (λ ms. holds_own ms k fs m) step.marks ∙ hand_on_own k fs m lk b (bays_into s.links b) s.marks in (
-              λ l.
-                  let there = (still_open k b _).0 (sym e ∙ l) in let r = old.0 there.1 in
-                  ((still_open k b _).1 (there.0, r.0), subst (MadeAccess h fs m) (sym (same k there.0)) r.1),
-              λ r.
-                  let o = (still_open k b _).0 r.0 in
-                  e ∙ (still_open k b _).1 (o.0, old.1 (o.1, subst (MadeAccess h fs m) (same k o.0) r.1)),
-            );
+            held_past h b (MadeAccess h fs m) k _ _ (ap (λ ms. holds_own ms k fs m) step.marks ∙ hand_on_own k fs m lk b (bays_into s.links b) s.marks)
+            (was.own_marks_are_accesses_of_the_open_transaction clean k lk fs m);
         inherited_marks_are_accesses_that_paths_reach =
             λ clean k lk fs m.
-            let hand = handed clean k lk fs m in
-            let e = ap (λ ms. holds_inherited ms k fs m) step.marks ∙ hand_on_inherited k fs m lk b (bays_into s.links b) s.marks in (
-              λ l.
-                  let there = (still_open k b _).0 (sym e ∙ l) in let r = hand.0 there.1 in
-                  ((still_open k b _).1 (there.0, r.0), subst (ReachesAccess overlapping conflicting after fs m) (sym (same k there.0)) r.1),
-              λ r.
-                  let o = (still_open k b _).0 r.0 in
-                  e ∙ (still_open k b _).1 (o.0, hand.1 (o.1, subst (ReachesAccess overlapping conflicting after fs m) (same k o.0) r.1)),
-            );
+            held_past h b (ReachesAccess overlapping conflicting after fs m) k _ _ (ap (λ ms. holds_inherited ms k fs m) step.marks ∙ hand_on_inherited k fs m lk b (bays_into s.links b) s.marks)
+            (handed clean k lk fs m);
         held_marks_are_told_apart = ap told_apart step.marks ∙ hand_on_apart b (bays_into s.links b) s.marks was.held_marks_are_told_apart;
         only_bays_hold_marks = subst OnlyBays (sym step.marks) (hand_on_bays b (bays_into s.links b) s.marks was.only_bays_hold_marks);
         open_bays_are_bays = λ k o. subst (λ n. k < n) (sym step.bays) (was.open_bays_are_bays k ((still_open k b _).0 o).1);
-        bays_are_few = few_kept overlapping conflicting h s t (commit_of b) (Ok (Committed Clean)) was step in_bay;
-        bays_have_records = room_kept overlapping conflicting h s t (commit_of b) (Ok (Committed Clean)) was step in_bay;
-        accesses_are_numbered =
-            every_map _ _
-            (λ x. numbered_ended (eqb x.transaction.bay b) x.transaction.number (ended h x.transaction.bay) (is_open h x.transaction.bay))
-            (accesses h) was.accesses_are_numbered;
+        bays_are_few = table.few;
+        bays_have_records = table.room;
+        accesses_are_numbered = numbered_past h b was.accesses_are_numbered;
         committed_have_no_cycle = λ clean. no_cycle;
       }

@@ -9,11 +9,11 @@ use Rattle.serial.proofs.Effects.{cycle_adds}
 use Rattle.watch.specs.declared.answer.Verdict.{Verdict}
 use Rattle.watch.specs.declared.answer.Outcome.TheVariants.{Committed}
 use Rattle.watch.specs.Answers.{Answer}
-use Rattle.watch.specs.Histories.{History, Call, made_by, is_open, ended, open_transaction, same_transaction, is_committed, accesses, committed_accesses, has_crossed, conflict}
+use Rattle.watch.specs.Histories.{History, Call, made_by, is_open, open_transaction, same_transaction, is_committed, accesses, committed_accesses, has_crossed, conflict}
 use Rattle.watch.specs.States.{State}
 use Rattle.watch.specs.Steps.{Step, answer_in, verdict_on}
 use Rattle.watch.specs.Accounts.{Account}
-use Rattle.watch.proofs.HistoryFacts.{transaction_equal, transaction_same, same_number}
+use Rattle.watch.proofs.HistoryFacts.{transaction_equal, transaction_same}
 use Rattle.watch.proofs.AnswerFacts.{passed, commit_taken, uncrossed}
 
 abbrev pub commit_of : ℕ → Call
@@ -34,10 +34,6 @@ commit_adds v b h u = (
     back : (is_committed h u ≡ true) ⊎ (u ≡ open_transaction h b) → is_committed (committed_to v b h) u ≡ true
     back (inl old) = or_right (same_transaction u (open_transaction h b)) (is_committed h u) old
     back (inr same) = or_left (same_transaction u (open_transaction h b)) (is_committed h u) (transaction_same u (open_transaction h b) same)
-
--- The open transactions of other bays are the same.
-pub others_same : (v : Verdict) (b : ℕ) (h : History) (k : ℕ) → (k ≡ b → ⊥) → open_transaction (committed_to v b h) k ≡ open_transaction h k
-others_same v b h k = same_number k b (ended h k)
 
 module _ (overlapping : List ℕ → List ℕ → Bool) (conflicting : Mode → Mode → Bool) (h : History) (s t : State) (b : ℕ) (v : Verdict)
     (was : Account overlapping conflicting h s) (step : Step overlapping conflicting s (commit_of b) (Ok (Committed v)) t) where

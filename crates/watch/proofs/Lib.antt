@@ -5,6 +5,7 @@ mod SameAccount
 mod NothingKept
 mod TableKept
 mod BeginKept
+mod EndedFacts
 mod AbortKept
 mod AccessFacts
 mod AccessKept
