@@ -1,4 +1,4 @@
-// Many links put at once on any board.
+// Many links put at once on any board, which takes one at a time.
 ghost use Rattle.std.specs.Prelude.{◌≡◌, ◌<◌};
 ghost use Rattle.boards.specs.Boards.{SameLinks};
 ghost use Rattle.watch.specs.Steps.{with_links_to, with_links_between};

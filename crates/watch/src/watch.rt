@@ -16,7 +16,8 @@ use boards::Board;
 use items::{Event, Kind, Layer, Mode, Reason, Refusal};
 use marks::MarkList;
 
-// Over the marks that a caller lends, which nothing else changes while the watch lives.
+// Over the marks that a caller lends, which nothing else changes while the watch lives. Contracts read the fields, by the
+// state that they mean, and not a model, which would hide whose memory the marks lie in.
 #[derive(Drop)]
 pub struct Watch<'a, I, B> {
     pub(crate) board: B,
