@@ -6,8 +6,6 @@ use Rattle.items.specs.declared.mode.Mode.TheVariants.{Look}
 use Rattle.marks.specs.declared.slices.Place.{Place}
 use Rattle.marks.specs.declared.slices.Place.TheVariants.{Held, Vacant}
 use Rattle.marks.specs.Marks.{MarkMeant, is_vacant, is_held_of, fresh_mark}
--- whether some mark of a list passes a test, by the name that the crates above know
-pub use Rattle.std.specs.List.{list_any as any_mark}
 
 -- the mark at a place, or one that means nothing past the end
 abbrev pub mark_at : List MarkMeant → ℕ → MarkMeant

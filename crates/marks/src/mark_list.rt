@@ -40,6 +40,15 @@ pub struct Unopened<'a, I> {
     pub marks: &'a mut [Mark<I>],
 }
 
+// Who wants no more than the reason lets the marks go.
+impl<I> From<Unopened<'_, I>> for Refusal {
+    ghost from_gives = { λ x y. y ≡ x.refusal };
+
+    fn from(unopened: Unopened<'_, I>) -> Refusal {
+        unopened.refusal
+    }
+}
+
 impl<'a, I: Kind + Copy> MarkList<'a, I> {
     // Opens a list of 1 to 4,096 marks, all of them vacant from then on.
     pub fn open(marks: &'a mut [Mark<I>]) -> Result<MarkList<'a, I>, Unopened<'a, I>>

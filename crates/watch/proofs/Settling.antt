@@ -6,7 +6,7 @@ use Rattle.items.specs.declared.entry.Event.{Event}
 use Rattle.items.specs.declared.mode.Mode.{Mode}
 use Rattle.items.specs.declared.refusal.Reason.TheVariants.{NoSuchBay, NoVacantMark}
 use Rattle.marks.specs.Marks.{is_vacant, is_held_of}
-use Rattle.marks.specs.Places.{any_mark}
+use Rattle.std.specs.List.{list_any}
 use Rattle.marks.specs.Holding.{holds_own, holds_inherited, held_count}
 use Rattle.marks.specs.Apart.{is_listed}
 use Rattle.marks.proofs.CountLaws.{count_within, vacant_when_fewer, held_decides}
@@ -23,10 +23,10 @@ use Rattle.watch.proofs.HeldFacts.{held_of, held_listed, held_once}
 module _ (overlapping : List ℕ → List ℕ → Bool) (conflicting : Mode → Mode → Bool) (h : History) (s : State)
     (was : Account overlapping conflicting h s) (clean : has_crossed h ≡ false) where
   -- What marks are held with is what is held by the history.
-  held_in_history : (fs : List ℕ) (m : Mode) → Decides (any_mark (is_held_of fs m) s.marks) (HeldInHistory overlapping conflicting h fs m)
+  held_in_history : (fs : List ℕ) (m : Mode) → Decides (list_any (is_held_of fs m) s.marks) (HeldInHistory overlapping conflicting h fs m)
   held_in_history fs m = (λ e. go (decides.0 e), λ r. decides.1 (back r))
     where
-      decides : Decides (any_mark (is_held_of fs m) s.marks) ((b : ℕ) × (b < 32) × ((holds_own s.marks b fs m || holds_inherited s.marks b fs m) ≡ true))
+      decides : Decides (list_any (is_held_of fs m) s.marks) ((b : ℕ) × (b < 32) × ((holds_own s.marks b fs m || holds_inherited s.marks b fs m) ≡ true))
       decides = held_decides fs m s.marks was.only_bays_hold_marks
 
       go : (b : ℕ) × (b < 32) × ((holds_own s.marks b fs m || holds_inherited s.marks b fs m) ≡ true) → HeldInHistory overlapping conflicting h fs m
@@ -62,25 +62,25 @@ module _ (overlapping : List ℕ → List ℕ → Bool) (conflicting : Mode → 
     as_many : length held ≡ held_count s.marks
     as_many =
         listed_count s.marks held was.held_marks_are_told_apart lists.once
-        (λ fs m. same_from_decides (is_listed held fs m) (any_mark (is_held_of fs m) s.marks) (lists.exactly fs m) (held_in_history fs m))
+        (λ fs m. same_from_decides (is_listed held fs m) (list_any (is_held_of fs m) s.marks) (lists.exactly fs m) (held_in_history fs m))
 
     pub place_settled : (fs : List ℕ) (m : Mode) → (has_place fs m s.marks ≡ false) ↔
         ((HeldInHistory overlapping conflicting h fs m → ⊥) × (length held ≡ length s.marks))
-    place_settled fs m = (λ e. go (any_mark (is_held_of fs m) s.marks) refl e, λ (none, full). back (any_mark (is_held_of fs m) s.marks) refl none full)
+    place_settled fs m = (λ e. go (list_any (is_held_of fs m) s.marks) refl e, λ (none, full). back (list_any (is_held_of fs m) s.marks) refl none full)
       where
         within : held_count s.marks ≤ length s.marks
         within = count_within s.marks
 
-        go : (x : Bool) → any_mark (is_held_of fs m) s.marks ≡ x → cond x true (any_mark is_vacant s.marks) ≡ false →
+        go : (x : Bool) → list_any (is_held_of fs m) s.marks ≡ x → cond x true (list_any is_vacant s.marks) ≡ false →
             (HeldInHistory overlapping conflicting h fs m → ⊥) × (length held ≡ length s.marks)
         go true is e = absurd (both_ways true e refl)
         go false is e =
             let full = ltb-false (held_count s.marks) (length s.marks) (sym (vacant_when_fewer s.marks) ∙ e) in
             let many = as_many in let most = within in
-            (λ r. both_ways (any_mark (is_held_of fs m) s.marks) is ((held_in_history fs m).1 r), omega arith)
+            (λ r. both_ways (list_any (is_held_of fs m) s.marks) is ((held_in_history fs m).1 r), omega arith)
 
-        back : (x : Bool) → any_mark (is_held_of fs m) s.marks ≡ x → (HeldInHistory overlapping conflicting h fs m → ⊥) →
-            length held ≡ length s.marks → cond x true (any_mark is_vacant s.marks) ≡ false
+        back : (x : Bool) → list_any (is_held_of fs m) s.marks ≡ x → (HeldInHistory overlapping conflicting h fs m → ⊥) →
+            length held ≡ length s.marks → cond x true (list_any is_vacant s.marks) ≡ false
         back true is none full = absurd (none ((held_in_history fs m).0 is))
         back false is none full =
             let many = as_many in vacant_when_fewer s.marks ∙ le-ltb (held_count s.marks) (length s.marks) (omega arith)

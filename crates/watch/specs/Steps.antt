@@ -10,7 +10,7 @@ use Rattle.items.specs.declared.refusal.Refusal.{Refusal}
 use Rattle.boards.specs.BaySets.{bit}
 use Rattle.boards.specs.Boards.{Links, without_pairs_of, bays_into}
 use Rattle.marks.specs.Marks.{MarkMeant, is_vacant, is_held_of}
-use Rattle.marks.specs.Places.{any_mark}
+use Rattle.std.specs.List.{list_any}
 use Rattle.marks.specs.Steps.{HoldStep, all_left, all_handed_on}
 use Rattle.marks.specs.Against.{linked_by}
 use Rattle.watch.specs.declared.answer.Verdict.{Verdict}
@@ -33,7 +33,7 @@ refused_for reason = Err (refusal_for reason)
 
 -- Whether an access finds a mark: one is held with its fields and mode, or one is vacant.
 abbrev pub has_place : List ℕ → Mode → List MarkMeant → Bool
-has_place fs mode ms = cond (any_mark (is_held_of fs mode) ms) true (any_mark is_vacant ms)
+has_place fs mode ms = cond (list_any (is_held_of fs mode) ms) true (list_any is_vacant ms)
 
 -- The verdict on a commit, by whether its bay links to itself.
 abbrev pub verdict_on : Bool → Verdict

@@ -30,11 +30,7 @@ pub struct Watch<'a, I, B> {
 pub(crate) fn refusal(reason: Reason) -> Refusal
     ensures { result ≡ refusal_for reason }
 {
-    Refusal {
-        reason,
-        layer: Layer::Watch,
-        entry: 0,
-    }
+    Layer::Watch.refusal(reason, 0)
 }
 
 impl<I: Kind + Copy, B: Board> Watch<'_, I, B> {
