@@ -33,6 +33,7 @@ pub(crate) fn refusal(reason: Reason) -> Refusal
     Layer::Watch.refusal(reason, 0)
 }
 
+// A step finds a bay open and hands it to one of the first three, which all ask for no more than that, by one definition.
 impl<I: Kind + Copy, B: Board> Watch<'_, I, B> {
     // An access in an open bay.
     fn access_in(&mut self, bay: u8, mode: Mode, item: I) -> Answer
