@@ -1,9 +1,9 @@
 // What is told of a log that was watched.
-ghost use Rattle.std.specs.Prelude.{◌≡◌, IfOk};
-ghost use Rattle.replay.specs.SummaryLines.{summary_line};
+ghost use Rattle.std.specs.Prelude.{◌≡◌, IfOk, Some};
+ghost use Rattle.replay.specs.SummaryLines.{summary_text, summary_line};
 
-use items::line_of;
 use std::alloc::{AllocError, Global};
+use std::fmt;
 
 // How many entries were watched, how many transactions were committed and aborted, how many bays were left open, and the
 // bay whose commit crossed, if any.
@@ -16,18 +16,29 @@ pub struct Summary {
     pub crossing: Option<u8>,
 }
 
+impl fmt::Display for Summary {
+    ghost output = { λ s. Some (summary_text s) };
+
+    fn fmt<W: fmt::Write>(&self, f: &mut fmt::Formatter<W>) -> fmt::Result {
+        let Summary {
+            entries,
+            commits,
+            aborts,
+            open_bays,
+            crossing,
+        } = self;
+        match crossing {
+            None => write!(f, "CLEAN {entries} {commits} {aborts} {open_bays}"),
+            Some(bay) => write!(f, "CROSSED {entries} {commits} {aborts} {open_bays} {bay}"),
+        }
+    }
+}
+
 impl Summary {
     // The line that a program prints for a summary.
     pub fn line(&self, heap: Global) -> Result<Vec<u8>, AllocError>
         ensures { IfOk result (λ v. v.items ≡ summary_line self.now) }
     {
-        let [commits, aborts, open] = [self.commits, self.aborts, self.open_bays];
-        match self.crossing {
-            None => line_of(heap, b"CLEAN", self.entries, &[commits, aborts, open]),
-            Some(bay) => {
-                let numbers = [commits, aborts, open, u64::from(bay)];
-                line_of(heap, b"CROSSED", self.entries, &numbers)
-            }
-        }
+        Ok(format!(in heap; "{self}\n")?.into_bytes())
     }
 }
