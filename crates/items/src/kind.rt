@@ -83,7 +83,7 @@ pub trait TextKind: PackedKind {
     ghost wording: { Wording };
 
     // The word of this kind on the first line of a list.
-    fn kind_word<'a>() -> &'a [u8]
+    fn kind_word() -> &'static str
         ensures { result.now ≡ wording.word };
 
     // How many numbers stand for an item in a line.

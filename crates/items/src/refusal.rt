@@ -82,15 +82,15 @@ impl Layer {
     }
 
     // The word, behind the one that begins a refusal's line.
-    fn heading(self) -> &'static [u8]
+    fn heading(self) -> &'static str
         ensures { result.now ≡ refused ++ word_of self }
     {
         match self {
-            Layer::Item => b"REFUSED item",
-            Layer::Board => b"REFUSED board",
-            Layer::Watch => b"REFUSED watch",
-            Layer::Log => b"REFUSED log",
-            Layer::Text => b"REFUSED text",
+            Layer::Item => "REFUSED item",
+            Layer::Board => "REFUSED board",
+            Layer::Watch => "REFUSED watch",
+            Layer::Log => "REFUSED log",
+            Layer::Text => "REFUSED text",
         }
     }
 }
@@ -138,7 +138,7 @@ impl Refusal {
         ensures length { result ≡ fitted (length out.old) 0 (length (refusal_line self.now)) }
         ensures memory { out.new ≡ pasted_if result out.old 0 (refusal_line self.now) }
     {
-        let word = self.layer.heading();
+        let word = self.layer.heading().as_bytes();
         write_line(out, 0, word, self.reason.number() as u64, &[self.entry])
     }
 

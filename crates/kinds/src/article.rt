@@ -113,8 +113,8 @@ impl TextKind for Article {
 
     ghost shown_is_packed = { Prim.search rules };
 
-    fn kind_word<'a>() -> &'a [u8] {
-        b"article"
+    fn kind_word() -> &'static str {
+        "article"
     }
 
     fn shown_count() -> usize {

@@ -127,8 +127,8 @@ impl TextKind for FieldSet {
 
     ghost shown_is_packed = { Prim.search rules };
 
-    fn kind_word<'a>() -> &'a [u8] {
-        b"fields"
+    fn kind_word() -> &'static str {
+        "fields"
     }
 
     fn shown_count() -> usize {

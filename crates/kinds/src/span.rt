@@ -127,8 +127,8 @@ impl TextKind for Span {
 
     ghost shown_is_packed = { Prim.search rules };
 
-    fn kind_word<'a>() -> &'a [u8] {
-        b"span"
+    fn kind_word() -> &'static str {
+        "span"
     }
 
     fn shown_count() -> usize {
