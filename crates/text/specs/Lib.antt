@@ -5,3 +5,6 @@ pub mod Reads
 pub mod Writing
 pub mod Trips
 pub mod Whole
+pub mod ReaderLaws
+pub mod Forms
+pub mod Texts

@@ -2,13 +2,13 @@
 #![tactic(auto)]
 
 mod form;
+mod letter;
+mod line;
 mod list;
 mod reader;
 mod token;
 mod writer;
-mod writing;
 
 pub use list::read_list;
-pub use reader::{ListReader, list_code};
+pub use reader::{ListReader, list_kind};
 pub use writer::ListWriter;
-pub use writing::{Pass, Writing};

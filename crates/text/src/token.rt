@@ -5,31 +5,6 @@ ghost use Rattle.std.specs.Str.{all_ascii_digits};
 ghost use Rattle.text.specs.Tokens.{part_meant};
 ghost use Rattle.text.specs.Words.{before, behind, is_number, read_on, part_of, rest_of};
 
-// How many bytes stand before the first byte of this value.
-pub(crate) fn before_mark(bytes: &[u8], mark: u8) -> usize
-    ensures value { result ≡ length (before mark bytes.now) }
-    ensures within { result ≤ length bytes.now }
-{
-    for (i, b) in bytes.iter().enumerate() {
-        if *b == mark {
-            return i;
-        }
-    }
-    bytes.len()
-}
-
-// Whether all bytes are digits.
-fn all_digits(word: &[u8]) -> bool
-    ensures { result ≡ all_ascii_digits word.now }
-{
-    for b in word {
-        if *b < b'0' || *b > b'9' {
-            return false;
-        }
-    }
-    true
-}
-
 // Whether a word is a number: one to seven digits, and no leading zero but 0 itself.
 fn is_number(word: &[u8]) -> bool
     ensures { result ≡ is_number word.now }
@@ -41,7 +16,7 @@ fn is_number(word: &[u8]) -> bool
     if length > 1 && word[0] == b'0' {
         return false;
     }
-    all_digits(word)
+    word.iter().all(|b| b.is_ascii_digit())
 }
 
 // A part of a line: a word that is no number, a number, or the line's end.
@@ -60,22 +35,19 @@ pub(crate) fn number_value(digits: &[u8]) -> u64
 {
     let mut value = 0;
     for b in digits {
-        value = 10 * value + (*b - b'0') as u64;
+        value = 10 * value + u64::from(*b - b'0');
     }
     value
 }
 
-// The first word of a text, and what stands behind the space after it, if there is one.
-fn split_word<'a>(text: &'a [u8]) -> (&'a [u8], Option<&'a [u8]>)
-    ensures word { result.0.now ≡ before 32 text.now }
-    ensures rest { option_map (λ x. x.now) result.1 ≡ behind 32 text.now }
+// What stands before the first byte of this value, and what stands behind it, if there is one.
+pub(crate) fn split_mark<'a>(text: &'a [u8], mark: u8) -> (&'a [u8], Option<&'a [u8]>)
+    ensures before { result.0.now ≡ before mark text.now }
+    ensures behind { option_map (λ x. x.now) result.1 ≡ behind mark text.now }
 {
-    let end = before_mark(text, b' ');
-    let word = &text[0..end];
-    if end < text.len() {
-        (word, Some(&text[end + 1..]))
-    } else {
-        (word, None)
+    match text.iter().position(|b| *b == mark) {
+        Some(place) => (&text[..place], Some(&text[place + 1..])),
+        None => (text, None),
     }
 }
 
@@ -87,7 +59,7 @@ pub(crate) fn next_token<'a>(text: Option<&'a [u8]>) -> (Token<'a>, Option<&'a [
     let Some(text) = text else {
         return (Token::End, None);
     };
-    let (word, rest) = split_word(text);
+    let (word, rest) = split_mark(text, b' ');
     if is_number(word) {
         (Token::Number(word), rest)
     } else {

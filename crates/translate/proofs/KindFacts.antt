@@ -10,7 +10,6 @@ use Rattle.text.specs.Trips.{ValidEvent, ValidEntry}
 
 -- the laws that tie the two forms of a kind
 pub record Laws (layout : Layout) (kind : Wording) : Type 0 where
-  pub narrow : layout.code < 8
   pub tell : BitsTell layout
   pub shown : (n : ℕ) (fs : List ℕ) → layout.unpacked n ≡ Some fs → Showable kind fs
   pub packed : (ns fs : List ℕ) → kind.reads ns ≡ Some fs → layout.unpacked (layout.packed fs) ≡ Some fs

@@ -1,16 +1,11 @@
--- What a listing is written as, by the entries that it lists; and a list's log, by the code that its first line tells. Assumes nothing.
-use Rattle.std.proofs.Common.{◌≡◌, ℕ, cond, eqb, Bool, List, ◌++◌, Some, None, Ok, Err, Option, Result, refl, ap}
+-- What a listing is written as, by the entries that it lists. Assumes nothing.
+use Rattle.std.proofs.Common.{◌≡◌, ℕ, ◌++◌, refl, ap}
 use Rattle.items.specs.Kinds.{Layout, Wording}
-use Rattle.items.specs.declared.refusal.Refusal.{Refusal}
-use Rattle.kinds.specs.Articles.{article_layout, article_wording}
-use Rattle.kinds.specs.FieldSets.{field_set_layout, field_set_wording}
-use Rattle.kinds.specs.Spans.{span_layout, span_wording}
 use Rattle.packed.specs.Logs.{Listing, finished, stopped, listed, entries_listed}
 use Rattle.packed.specs.Packing.{entry_bits, header_bits, padded}
 use Rattle.packed.specs.Trips.{entries_bits, unpadded_bits}
 use Rattle.text.specs.Lists.{first_line, entry_line, entry_lines}
-use Rattle.text.specs.Reads.{FirstLine, code_told}
-use Rattle.translate.specs.Packs.{entries_bits as listing_bits, log_bits, packed_bits, log_by_kind}
+use Rattle.translate.specs.Packs.{entries_bits as listing_bits, log_bits}
 use Rattle.translate.specs.Translation.{lines_of, list_text}
 
 -- the lines of a listing are those of its entries
@@ -30,15 +25,3 @@ text_is kind bays l = ap (λ t. first_line kind bays ++ t) (lines_are kind l)
 
 pub log_is : (kind : Layout) (bays : ℕ) (l : Listing) → log_bits kind bays l ≡ padded 0 (unpadded_bits kind bays (entries_listed l))
 log_is kind bays l = ap (λ t. padded 0 (header_bits kind.code bays ++ t)) (bits_are kind l)
-
--- a list as a log, by a code
-abbrev pub log_by_code : List ℕ → ℕ → Result ℕ Refusal → Result (List Bool) Refusal
-log_by_code text room (Err r) = Err r
-log_by_code text room (Ok code) =
-    cond (eqb code 1) (packed_bits article_layout article_wording text room)
-    (cond (eqb code 2) (packed_bits span_layout span_wording text room) (packed_bits field_set_layout field_set_wording text room))
-
--- the kind that a first line tells is told by its code
-pub kind_by_code : (text : List ℕ) (room : ℕ) (o : Option FirstLine) → log_by_kind text room o ≡ log_by_code text room (code_told o)
-kind_by_code text room None = refl
-kind_by_code text room (Some l) = refl

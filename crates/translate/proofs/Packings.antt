@@ -1,12 +1,12 @@
 -- A pass over a list that packs its log: what each step keeps, and what the end says. Assumes nothing.
-use Rattle.std.proofs.Common.{◌≡◌, ℕ, ◌+◌, ◌-◌, ◌*◌, ◌/◌, ◌%◌, ◌<◌, ◌≤◌, Bool, true, false, cond, eqb, List, ◌++◌, length, Some, None, Ok, Err, Option, Result, sym, refl, ap, ◌∙◌, append_assoc, add-zero, arith, length-append}
+use Rattle.std.proofs.Common.{◌≡◌, ℕ, ◌+◌, ◌-◌, ◌*◌, ◌/◌, ◌%◌, ◌<◌, ◌≤◌, Bool, List, ◌++◌, length, Ok, Err, Result, sym, refl, ap, ◌∙◌, append_assoc, add-zero, arith, length-append}
 use Rattle.std.specs.List.{AllByRecursion}
 use Rattle.items.specs.Kinds.{Layout, Wording, meant}
 use Rattle.items.specs.Lines.{pasted}
 use Rattle.items.specs.declared.entry.Entry.{Entry}
 use Rattle.items.specs.declared.refusal.Refusal.{Refusal}
 use Rattle.items.proofs.Pasting.{pasted_pieces, pasted_again}
-use Rattle.packed.specs.declared.packing.Packing.{Packing}
+use Rattle.packed.specs.declared.writing.Writing.{Writing}
 use Rattle.packed.specs.declared.reading.Reading.{Reading}
 use Rattle.packed.specs.Logs.{Listing, finished, stopped, listed}
 use Rattle.packed.specs.Packing.{header_bits, entry_bits, padding_bits, padded, header_packs, entry_packs, bit_room}
@@ -14,57 +14,38 @@ use Rattle.packed.specs.Bits.{bytes_of}
 use Rattle.packed.proofs.BitLists.{length_number_bits}
 use Rattle.packed.proofs.NumberBits.{bytes_count, bytes_over}
 use Rattle.packed.proofs.WriteTrips.{entry_packed, header_packed}
-use Rattle.packed.proofs.Walks.{listing_by_skips, listing_from, MovedBy}
+use Rattle.packed.proofs.Walks.{MovedBy}
+use Rattle.packed.specs.Readers.{listing_from}
 use Rattle.text.specs.Whole.{list_listing}
 use Rattle.translate.specs.Packs.{entries_bits as listing_bits, log_bits, packs, packed_behind, packed_bits, PackedInto}
-use Rattle.text.specs.Reads.{FirstLine, line_size, line_at, first_line_of, few_bays, begun_with, begun_by, list_begun}
+use Rattle.text.specs.Reads.{line_at, has_code, list_begun}
 use Rattle.translate.specs.Translation.{next, translated_memory}
-use Rattle.text.specs.Words.{before}
 
-ok_err : {X Y : Type 0} {Z : Type 0} (x : X) (y : Y) → ◌≡◌ {A = Result X Y} (Ok x) (Err y) → Z
-ok_err x y h = let z : ◌≡◌ {A = ℕ} 0 1 = cc in absurd (omega arith)
-
-begun_with_none : (size : ℕ) (o : Option ℕ) (r : Reading) → begun_with size o ≡ Ok r → r.taken ≡ 0
-begun_with_none size None r h = ok_err r _ (sym h)
-begun_with_none size (Some bays) r h = let same : record { bays = bays; place = size; taken = 0 } ≡ r = cc in sym (ap (λ x. x.taken) same)
-
-begun_known_none : (b : Bool) (size : ℕ) (o : Option ℕ) (x : Refusal) (r : Reading) → cond b (begun_with size o) (Err x) ≡ Ok r → r.taken ≡ 0
-begun_known_none true size o x r h = begun_with_none size o r h
-begun_known_none false size o x r h = ok_err r x (sym h)
-
-begun_by_none : (known : ℕ → Bool) (size : ℕ) (o : Option FirstLine) (r : Reading) → begun_by known size o ≡ Ok r → r.taken ≡ 0
-begun_by_none known size None r h = ok_err r _ (sym h)
-begun_by_none known size (Some l) r h = begun_known_none (known l.code) size (few_bays l.bays) _ r h
-
--- a list that was begun has no entry taken
-pub begun_none : (known : ℕ → Bool) (text : List ℕ) (r : Reading) → list_begun known text ≡ Ok r → r.taken ≡ 0
-begun_none known text r h = begun_by_none known (line_size text) (first_line_of (before 10 text)) r h
-
-packed_on : (kind : Layout) (room : ℕ) (e : Entry (List ℕ)) (rest : Listing) (p p' : Packing) → ((q : Packing) → packs kind room rest q ≡ Ok p' → p'.place ≡ q.place + length (listing_bits kind rest)) → (x : Result Packing Refusal) → entry_packs kind room p e ≡ x → next x (packs kind room rest) ≡ Ok p' → p'.place ≡ p.place + length (listing_bits kind (listed e rest))
-packed_on kind room e rest p p' before (Err r) is h = ok_err p' r (sym h)
+packed_on : (kind : Layout) (room : ℕ) (e : Entry (List ℕ)) (rest : Listing) (p p' : Writing) → ((q : Writing) → packs kind room rest q ≡ Ok p' → p'.place ≡ q.place + length (listing_bits kind rest)) → (x : Result Writing Refusal) → entry_packs kind room p e ≡ x → next x (packs kind room rest) ≡ Ok p' → p'.place ≡ p.place + length (listing_bits kind (listed e rest))
+packed_on kind room e rest p p' before (Err r) is h = absurd cc
 packed_on kind room e rest p p' before (Ok q) is h =
     omega (arith, before q h, (entry_packed kind room p e q is).place, length-append (entry_bits kind e) (listing_bits kind rest))
 
 -- a log that was packed whole has the bits of each entry
-pub packs_place : (kind : Layout) (room : ℕ) (l : Listing) (p p' : Packing) → packs kind room l p ≡ Ok p' → p'.place ≡ p.place + length (listing_bits kind l)
+pub packs_place : (kind : Layout) (room : ℕ) (l : Listing) (p p' : Writing) → packs kind room l p ≡ Ok p' → p'.place ≡ p.place + length (listing_bits kind l)
 packs_place kind room finished p p' h = let same : p ≡ p' = cc in sym (ap (λ x. x.place) same) ∙ sym (add-zero p.place)
-packs_place kind room (stopped r l) p p' h = ok_err p' _ (sym h)
+packs_place kind room (stopped r l) p p' h = absurd cc
 packs_place kind room (listed e rest) p p' h = packed_on kind room e rest p p' (λ q. packs_place kind room rest q p') (entry_packs kind room p e) refl h
 
-packed_within : (kind : Layout) (room : ℕ) (e : Entry (List ℕ)) (rest : Listing) (p p' : Packing) → ((q : Packing) → q.place ≤ bit_room room → packs kind room rest q ≡ Ok p' → p'.place ≤ bit_room room) → (x : Result Packing Refusal) → entry_packs kind room p e ≡ x → next x (packs kind room rest) ≡ Ok p' → p'.place ≤ bit_room room
-packed_within kind room e rest p p' before (Err r) is h = ok_err p' r (sym h)
+packed_within : (kind : Layout) (room : ℕ) (e : Entry (List ℕ)) (rest : Listing) (p p' : Writing) → ((q : Writing) → q.place ≤ bit_room room → packs kind room rest q ≡ Ok p' → p'.place ≤ bit_room room) → (x : Result Writing Refusal) → entry_packs kind room p e ≡ x → next x (packs kind room rest) ≡ Ok p' → p'.place ≤ bit_room room
+packed_within kind room e rest p p' before (Err r) is h = absurd cc
 packed_within kind room e rest p p' before (Ok q) is h =
     let told = entry_packed kind room p e q is in
     before q (omega (arith, told.place, told.fits)) h
 
 -- a log that was packed whole has the room that it needs
-pub packs_within : (kind : Layout) (room : ℕ) (l : Listing) (p p' : Packing) → p.place ≤ bit_room room → packs kind room l p ≡ Ok p' → p'.place ≤ bit_room room
+pub packs_within : (kind : Layout) (room : ℕ) (l : Listing) (p p' : Writing) → p.place ≤ bit_room room → packs kind room l p ≡ Ok p' → p'.place ≤ bit_room room
 packs_within kind room finished p p' here h = let same : p ≡ p' = cc in omega (arith, ap (λ x. x.place) same)
-packs_within kind room (stopped r l) p p' here h = ok_err p' _ (sym h)
+packs_within kind room (stopped r l) p p' here h = absurd cc
 packs_within kind room (listed e rest) p p' here h = packed_within kind room e rest p p' (λ q. packs_within kind room rest q p') (entry_packs kind room p e) refl h
 
 -- a log is packed alike into memory of which it may use as much
-packs_room : (kind : Layout) (m n : ℕ) → bit_room m ≡ bit_room n → (l : Listing) (p : Packing) → packs kind m l p ≡ packs kind n l p
+packs_room : (kind : Layout) (m n : ℕ) → bit_room m ≡ bit_room n → (l : Listing) (p : Writing) → packs kind m l p ≡ packs kind n l p
 packs_room kind m n same finished p = refl
 packs_room kind m n same (stopped r l) p = refl
 packs_room kind m n same (listed e rest) p =
@@ -115,23 +96,23 @@ Fits room x = (bits : List Bool) → x ≡ Ok bits → WholeBytes room bits
 
 module _ (layout : Layout) (kind : Wording) (text : List ℕ) (room : ℕ) where
   -- what a pass keeps: it began at a reading and a packing, and goes on from others to the same outcome
-  pub record Packs (r₀ : Reading) (p₀ : Packing) (r : Reading) (p : Packing) : Type 0 where
+  pub record Packs (r₀ : Reading) (p₀ : Writing) (r : Reading) (p : Writing) : Type 0 where
     pub level : r.taken ≡ p.entries
     pub goes : packs layout room (list_listing kind text r₀) p₀ ≡ packs layout room (listing_from (line_at kind) text r) p
 
-  pub packs_begin : (r : Reading) (p : Packing) → r.taken ≡ 0 → header_packs layout.code room r.bays ≡ Ok p → Packs r p r p
+  pub packs_begin : (r : Reading) (p : Writing) → r.taken ≡ 0 → header_packs layout.code room r.bays ≡ Ok p → Packs r p r p
   packs_begin r p none head =
       record {
         level = none ∙ sym (header_packed layout.code room r.bays p head).entries;
-        goes = ap (λ l. packs layout room l p) (listing_by_skips (line_at kind r.bays) text r.place);
+        goes = refl;
       }
 
-  module _ {r₀ : Reading} {p₀ : Packing} {r : Reading} {p : Packing} (s : Packs r₀ p₀ r p) where
+  module _ {r₀ : Reading} {p₀ : Writing} {r : Reading} {p : Writing} (s : Packs r₀ p₀ r p) where
     -- one line more was read: how packing goes on
     packs-read : (r' : Reading) (e : Entry (List ℕ)) → MovedBy 1 (line_at kind) text r r' e → packs layout room (list_listing kind text r₀) p₀ ≡ next (entry_packs layout room p e) (packs layout room (listing_from (line_at kind) text r'))
     packs-read r' e m = s.goes ∙ ap (λ l. packs layout room l p) m.lists
 
-    pub packs_on : (r' : Reading) (e : Entry (List ℕ)) (p' : Packing) → MovedBy 1 (line_at kind) text r r' e → entry_packs layout room p e ≡ Ok p' → Packs r₀ p₀ r' p'
+    pub packs_on : (r' : Reading) (e : Entry (List ℕ)) (p' : Writing) → MovedBy 1 (line_at kind) text r r' e → entry_packs layout room p e ≡ Ok p' → Packs r₀ p₀ r' p'
     packs_on r' e p' m is =
         record {
           level = m.count ∙ ap (λ n. n + 1) s.level ∙ sym (entry_packed layout room p e p' is).entries;
@@ -150,12 +131,12 @@ module _ (layout : Layout) (kind : Wording) (text : List ℕ) (room : ℕ) where
     packs_end is = s.goes ∙ ap (λ l. packs layout room l p) is
 
   -- the whole packing, by how a pass that was begun goes on
-  pub packed_as : (r : Reading) (x : Result Packing Refusal) → list_begun (λ c. eqb c layout.code) text ≡ Ok r → next (header_packs layout.code room r.bays) (packs layout room (list_listing kind text r)) ≡ x → packed_bits layout kind text room ≡ meant (λ _. log_bits layout r.bays (list_listing kind text r)) x
+  pub packed_as : (r : Reading) (x : Result Writing Refusal) → list_begun (has_code layout.code) text ≡ Ok r → next (header_packs layout.code room r.bays) (packs layout room (list_listing kind text r)) ≡ x → packed_bits layout kind text room ≡ meant (λ _. log_bits layout r.bays (list_listing kind text r)) x
   packed_as r x open' is = ap (packed_behind layout kind text room) open' ∙ ap (meant (λ _. log_bits layout r.bays (list_listing kind text r))) is
 
-  behind_fits : (bits : List Bool) (r : Reading) (x y : Result Packing Refusal) → header_packs layout.code room r.bays ≡ x → next x (packs layout room (list_listing kind text r)) ≡ y → meant (λ _. log_bits layout r.bays (list_listing kind text r)) y ≡ Ok bits → WholeBytes room bits
-  behind_fits bits r x (Err e) head is h = ok_err bits e (sym h)
-  behind_fits bits r (Err e) (Ok p') head is h = ok_err p' e (sym is)
+  behind_fits : (bits : List Bool) (r : Reading) (x y : Result Writing Refusal) → header_packs layout.code room r.bays ≡ x → next x (packs layout room (list_listing kind text r)) ≡ y → meant (λ _. log_bits layout r.bays (list_listing kind text r)) y ≡ Ok bits → WholeBytes room bits
+  behind_fits bits r x (Err e) head is h = absurd cc
+  behind_fits bits r (Err e) (Ok p') head is h = absurd cc
   behind_fits bits r (Ok p₀) (Ok p') head is h =
       let list = list_listing kind text r in
       let all = header_bits layout.code r.bays ++ listing_bits layout list in
@@ -168,12 +149,12 @@ module _ (layout : Layout) (kind : Wording) (text : List ℕ) (room : ℕ) where
       (omega arith, omega (arith, begun.place))
 
   packed_behind_fits : (bits : List Bool) (x : Result Reading Refusal) → packed_behind layout kind text room x ≡ Ok bits → WholeBytes room bits
-  packed_behind_fits bits (Err e) h = ok_err bits e (sym h)
+  packed_behind_fits bits (Err e) h = absurd cc
   packed_behind_fits bits (Ok r) h = behind_fits bits r (header_packs layout.code room r.bays) _ refl refl h
 
   -- a log that was packed has whole bytes, and they have room
   pub packed_fits : Fits room (packed_bits layout kind text room)
-  packed_fits bits h = packed_behind_fits bits (list_begun (λ c. eqb c layout.code) text) h
+  packed_fits bits h = packed_behind_fits bits (list_begun (has_code layout.code) text) h
 
 behind_room : (layout : Layout) (kind : Wording) (text : List ℕ) (m n : ℕ) → bit_room m ≡ bit_room n → (x : Result Reading Refusal) → packed_behind layout kind text m x ≡ packed_behind layout kind text n x
 behind_room layout kind text m n same (Err e) = refl
@@ -184,7 +165,7 @@ behind_room layout kind text m n same (Ok r) =
 
 -- a list is packed alike into memory of which its log may use as much
 pub packed_room : (layout : Layout) (kind : Wording) (text : List ℕ) (m n : ℕ) → bit_room m ≡ bit_room n → packed_bits layout kind text m ≡ packed_bits layout kind text n
-packed_room layout kind text m n same = behind_room layout kind text m n same (list_begun (λ c. eqb c layout.code) text)
+packed_room layout kind text m n same = behind_room layout kind text m n same (list_begun (has_code layout.code) text)
 
 -- how many bytes were packed
 pub packed_count : (room : ℕ) (x : Result (List Bool) Refusal) → Fits room x → meant (λ bits. length bits / 8) x ≡ meant length (meant bytes_of x)
@@ -194,4 +175,4 @@ packed_count room (Err e) fits = refl
 -- memory that a log was packed into has its bytes
 pub packed_bytes : (before after : List ℕ) (x : Result (List Bool) Refusal) (n : ℕ) → Fits (length before) x → AllByRecursion (λ b. b < 256) before → AllByRecursion (λ b. b < 256) after → meant (λ bits. length bits / 8) x ≡ Ok n → PackedInto before x after → after ≡ translated_memory before (meant bytes_of x)
 packed_bytes before after (Ok bits) n fits was small some into = bytes_over before after bits (length bits / 8) was small (fits bits refl).0 (fits bits refl).1 into
-packed_bytes before after (Err e) n fits was small some into = ok_err n e (sym some)
+packed_bytes before after (Err e) n fits was small some into = absurd cc

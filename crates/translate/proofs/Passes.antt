@@ -1,70 +1,49 @@
 -- A pass over a log that writes its list: what each step keeps, and what the end says. Assumes nothing.
-use Rattle.std.proofs.Common.{◌≡◌, ℕ, ◌+◌, ◌≤◌, Bool, true, false, cond, ◌&&◌, eqb, ltb, leb, List, length, Some, None, Ok, Err, Option, Result, sym, refl, ap, ◌∙◌, add-zero, arith, length-append}
+use Rattle.std.proofs.Common.{◌≡◌, ℕ, ◌+◌, ◌≤◌, List, length, Ok, Err, Result, sym, refl, ap, ◌∙◌, add-zero, arith, length-append}
 use Rattle.items.specs.Kinds.{Layout, Wording, meant}
-use Rattle.items.specs.Lines.{fitted}
 use Rattle.items.specs.declared.entry.Entry.{Entry}
 use Rattle.items.specs.declared.refusal.Refusal.{Refusal}
-use Rattle.items.proofs.Fitting.{fits_room}
 use Rattle.packed.specs.declared.reading.Reading.{Reading}
 use Rattle.packed.specs.Headers.{one_kind, header_of}
 use Rattle.packed.specs.Logs.{Listing, finished, stopped, listed, log_listing}
 use Rattle.packed.specs.Readings.{begun}
-use Rattle.packed.proofs.Steps.{opened, opened_lists, listing_at, Moved}
-use Rattle.text.specs.declared.writing.Writing.{Writing}
+use Rattle.packed.proofs.Steps.{opened, opened_lists, Moved}
+use Rattle.packed.specs.Readers.{listing_at}
+use Rattle.packed.specs.declared.writing.Writing.{Writing}
 use Rattle.text.specs.Lists.{first_line, entry_line}
-use Rattle.text.specs.Writing.{headed, begins, grown, adds, answered}
+use Rattle.text.proofs.MemoryTrips.{begun_is, grown_is}
+use Rattle.text.specs.Writing.{begins, adds, answered}
 use Rattle.translate.specs.Translation.{lines_of, list_text, next, writes, plans, translated_behind, translated}
-
--- the two constructors of an answer are told apart
-ok_err : {X Y : Type 0} {Z : Type 0} (x : X) (y : Y) → ◌≡◌ {A = Result X Y} (Ok x) (Err y) → Z
-ok_err x y h = let z : ◌≡◌ {A = ℕ} 0 1 = cc in absurd (omega arith)
 
 pub answered_ok : (x : Result Writing Refusal) → Ok tt ≡ answered x → (w : Writing) × (x ≡ Ok w)
 answered_ok (Ok w) h = (w, refl)
-answered_ok (Err r) h = ok_err tt r h
+answered_ok (Err r) h = absurd cc
 
 pub answered_err : (x : Result Writing Refusal) (e : Refusal) → Err e ≡ answered x → x ≡ Err e
-answered_err (Ok w) e h = ok_err tt e (sym h)
+answered_err (Ok w) e h = absurd cc
 answered_err (Err r) e h = cc
-
-headed_place : (code bays room n : ℕ) (o : Option ℕ) (w : Writing) → fitted room 0 n ≡ o → headed code bays o ≡ Ok w → (w.place ≡ n) × (w.entries ≡ 0)
-headed_place code bays room n None w is h = ok_err w _ (sym h)
-headed_place code bays room n (Some end) w is h =
-    let same : w ≡ record { code = code; bays = bays; place = end; entries = 0 } = cc in
-    (ap (λ x. x.place) same ∙ omega (arith, (fits_room room 0 n end is).0), ap (λ x. x.entries) same)
-
-begun_place : (b : Bool) (code bays room n : ℕ) (w : Writing) (r : Refusal) → cond b (headed code bays (fitted room 0 n)) (Err r) ≡ Ok w → (w.place ≡ n) × (w.entries ≡ 0)
-begun_place true code bays room n w r h = headed_place code bays room n (fitted room 0 n) w refl h
-begun_place false code bays room n w r h = ok_err w r (sym h)
 
 -- a list that was begun has its first line and no entry
 pub begins_place : (kind : Wording) (code room bays : ℕ) (w : Writing) → begins kind code room bays ≡ Ok w → (w.place ≡ length (first_line kind bays)) × (w.entries ≡ 0)
-begins_place kind code room bays w h = begun_place (leb 1 bays && leb bays 32) code bays room (length (first_line kind bays)) w _ h
-
-grown_place : (w : Writing) (room n : ℕ) (o : Option ℕ) (w' : Writing) → fitted room w.place n ≡ o → grown w o ≡ Ok w' → (w'.place ≡ w.place + n) × (w'.entries ≡ w.entries + 1)
-grown_place w room n None w' is h = ok_err w' _ (sym h)
-grown_place w room n (Some end) w' is h =
-    let same : w' ≡ record { code = w.code; bays = w.bays; place = end; entries = w.entries + 1 } = cc in
-    (ap (λ x. x.place) same ∙ (fits_room room w.place n end is).0, ap (λ x. x.entries) same)
-
-added_place : (a b : Bool) (w : Writing) (room n : ℕ) (w' : Writing) (r s : Refusal) → cond a (cond b (grown w (fitted room w.place n)) (Err r)) (Err s) ≡ Ok w' → (w'.place ≡ w.place + n) × (w'.entries ≡ w.entries + 1)
-added_place true true w room n w' r s h = grown_place w room n (fitted room w.place n) w' refl h
-added_place true false w room n w' r s h = ok_err w' r (sym h)
-added_place false b w room n w' r s h = ok_err w' s (sym h)
+begins_place kind code room bays w h =
+    let is = (begun_is kind code room bays w _ _ _ refl refl h).2 in
+    (ap (λ x. x.place) is, ap (λ x. x.entries) is)
 
 -- an entry that was added has its line and counts one
 pub adds_place : (kind : Wording) (code room : ℕ) (w : Writing) (e : Entry (List ℕ)) (w' : Writing) → adds kind code room w e ≡ Ok w' → (w'.place ≡ w.place + length (entry_line kind e)) × (w'.entries ≡ w.entries + 1)
-adds_place kind code room w e w' h = added_place (ltb e.bay w.bays) (eqb code w.code) w room (length (entry_line kind e)) w' _ _ h
+adds_place kind code room w e w' h =
+    let is = (grown_is kind code room w w' e _ _ _ _ _ refl refl h).1 in
+    (ap (λ x. x.place) is, ap (λ x. x.entries) is)
 
 written_on : (kind : Wording) (code room : ℕ) (e : Entry (List ℕ)) (rest : Listing) (w w' : Writing) → ((v : Writing) → writes kind code room rest v ≡ Ok w' → w'.place ≡ v.place + length (lines_of kind rest)) → (x : Result Writing Refusal) → adds kind code room w e ≡ x → next x (writes kind code room rest) ≡ Ok w' → w'.place ≡ w.place + length (lines_of kind (listed e rest))
-written_on kind code room e rest w w' before (Err r) is h = ok_err w' r (sym h)
+written_on kind code room e rest w w' before (Err r) is h = absurd cc
 written_on kind code room e rest w w' before (Ok v) is h =
     omega (arith, before v h, (adds_place kind code room w e v is).0, length-append (entry_line kind e) (lines_of kind rest))
 
 -- a list that was written whole has a line for each entry
 pub writes_place : (kind : Wording) (code room : ℕ) (l : Listing) (w w' : Writing) → writes kind code room l w ≡ Ok w' → w'.place ≡ w.place + length (lines_of kind l)
 writes_place kind code room finished w w' h = let same : w ≡ w' = cc in sym (ap (λ x. x.place) same) ∙ sym (add-zero w.place)
-writes_place kind code room (stopped r l) w w' h = ok_err w' _ (sym h)
+writes_place kind code room (stopped r l) w w' h = absurd cc
 writes_place kind code room (listed e rest) w w' h = written_on kind code room e rest w w' (λ v. writes_place kind code room rest v w') (adds kind code room w e) refl h
 
 module _ (layout : Layout) (kind : Wording) (bytes : List ℕ) (room : ℕ) where

@@ -1,8 +1,11 @@
 -- From a log to a list and back, and from a list to a log and back. Assumes nothing.
-use Rattle.std.proofs.Common.{◌≡◌, ℕ, ◌+◌, ◌/◌, ◌<◌, ◌≤◌, eqb, List, [], ◌++◌, length, Ok, Err, Result, sym, refl, ap, ◌∙◌, append-nil, arith}
+use Rattle.std.proofs.Common.{◌≡◌, ℕ, ◌+◌, ◌/◌, ◌<◌, ◌≤◌, List, [], ◌++◌, length, Some, Ok, Err, Result, sym, refl, ap, ◌∙◌, append-nil, arith}
 use Rattle.std.specs.List.{AllByRecursion}
 use Rattle.std.proofs.lemmas.List.{length-append, drop_at}
+use Rattle.std.specs.Option.{option_map}
+use Rattle.items.specs.KindNames.{code_of}
 use Rattle.items.specs.Kinds.{Layout, Wording, meant}
+use Rattle.items.specs.declared.kind_name.KindName.{KindName}
 use Rattle.items.specs.declared.entry.Entry.{Entry}
 use Rattle.items.specs.declared.refusal.Refusal.{Refusal}
 use Rattle.packed.specs.declared.header.Header.{Header}
@@ -12,44 +15,37 @@ use Rattle.packed.specs.Headers.{any_kind, one_kind, header_of}
 use Rattle.packed.specs.Logs.{finished, entries_listed, entries_of, listing_by, Contents, with_bays, log_listing, behind_header, log_of}
 use Rattle.packed.specs.Packing.{header_bits, header_packs, bit_room}
 use Rattle.packed.specs.Trips.{entries_bits, unpadded_bits, log_bytes}
-use Rattle.packed.proofs.HeaderTrips.{ok_err}
 use Rattle.packed.proofs.LogTrips.{log_again, log_bytes_long, log_tells, log_reads}
-use Rattle.packed.proofs.Walks.{listing_by_skips}
 use Rattle.packed.proofs.WriteTrips.{header_packed}
 use Rattle.text.specs.Lists.{first_line, entry_lines, normal_form}
-use Rattle.text.specs.Reads.{line_at, list_begun, first_line_of, code_told}
+use Rattle.text.specs.Reads.{line_at, has_code, list_begun, first_line_of, kind_told}
 use Rattle.text.specs.Trips.{ValidEntry}
 use Rattle.text.specs.Words.{before}
 use Rattle.text.specs.Writing.{begins}
 use Rattle.text.proofs.FirstTrips.{first_line_reads_back, list_begun_lem}
 use Rattle.text.proofs.LineWalks.{listed_before, listed_entries}
-use Rattle.text.proofs.ListBacks.{contents_written_back, contents_valid}
+use Rattle.text.proofs.ListBacks.{with_bays_is, contents_written_back, contents_valid}
 use Rattle.text.proofs.ListTrips.{lines_listed}
-use Rattle.text.specs.Whole.{list_listing, behind_first, list_of}
-use Rattle.translate.specs.Packs.{log_bits, packs, packed_behind, packed_bits}
-use Rattle.translate.specs.Translation.{list_text, next, writes, plans, translated_behind, translated, text_by_kind}
+use Rattle.packed.specs.Readers.{contents_from}
+use Rattle.text.specs.Whole.{list_listing, list_of}
+use Rattle.translate.specs.Packs.{log_bits, packs, packed_behind, packed_bits, log_by_kind}
+use Rattle.translate.specs.Translation.{list_text, next, writes, plans, translated_behind, translated, layout_of, wording_of, text_by_kind}
 use Rattle.translate.specs.Trips.{Known, PacksAgain, ListsAgain, LogComesBack, ListComesBack}
 use Rattle.translate.proofs.KindFacts.{Laws, holdable_valid, valid_holdable, holdable_among}
-use Rattle.translate.proofs.Listed.{bits_are, text_is, log_is, log_by_code, kind_by_code}
+use Rattle.translate.proofs.Listed.{bits_are, text_is, log_is}
 use Rattle.translate.proofs.Packings.{packs_place, packs_within}
 use Rattle.translate.proofs.WholeFits.{packed_listed, written_listed, listed_before_lem, packs_fit, header_fits, writes_fit, begin_fits}
 
 -- what goes on only if nothing was refused
 next_is : {S : Type 0} (x : Result S Refusal) (go : S → Result S Refusal) (t : S) → next x go ≡ Ok t → (s : S) × (x ≡ Ok s) × (go s ≡ Ok t)
 next_is (Ok s) go t h = (s, refl, h)
-next_is (Err r) go t h = ok_err t r h
+next_is (Err r) go t h = absurd cc
 
 meant_is : {I J : Type 0} (f : I → J) (x : Result I Refusal) (j : J) → meant f x ≡ Ok j → (i : I) × (x ≡ Ok i) × (f i ≡ j)
 meant_is f (Ok i) j h = (i, refl, cc)
-meant_is f (Err r) j h = ok_err j r h
+meant_is f (Err r) j h = absurd cc
 
-with_bays_is : (bays : ℕ) (x : Result (List (Entry (List ℕ))) Refusal) (c : Contents) → with_bays bays x ≡ Ok c → (x ≡ Ok c.entries) × (bays ≡ c.bays)
-with_bays_is bays (Ok es) c h =
-    let same : record { bays = bays; entries = es } ≡ c = cc in
-    (ap (λ y. Ok y.entries) same, ap (λ y. y.bays) same)
-with_bays_is bays (Err r) c h = ok_err c r h
-
-module _ (layout : Layout) (kind : Wording) (laws : Laws layout kind) (known : Known layout kind) where
+module _ (layout : Layout) (kind : Wording) (laws : Laws layout kind) (name : KindName) (known : Known name layout kind) where
   -- what was translated: its number of bays and its entries
   record Listed (bytes text : List ℕ) : Type 0 where
     pub bays : ℕ
@@ -58,7 +54,7 @@ module _ (layout : Layout) (kind : Wording) (laws : Laws layout kind) (known : K
     pub text_is : first_line kind bays ++ entry_lines kind entries ≡ text
 
   listed_behind : (bytes text : List ℕ) (room : ℕ) (x : Result Header Refusal) → header_of (one_kind layout.code) bytes ≡ x → translated_behind layout kind bytes room x ≡ Ok text → Listed bytes text
-  listed_behind bytes text room (Err r) is h = ok_err text r h
+  listed_behind bytes text room (Err r) is h = absurd cc
   listed_behind bytes text room (Ok head) is h =
       let bays = head.bays in
       let list = log_listing layout bytes bays in
@@ -82,10 +78,9 @@ module _ (layout : Layout) (kind : Wording) (laws : Laws layout kind) (known : K
       let first = first_line kind bays in
       let lines = entry_lines kind es in
       let at : Reading = record { bays = bays; place = length first; taken = 0 } in
-      let begun : list_begun (λ c. eqb c layout.code) text ≡ Ok at = ap (list_begun (λ c. eqb c layout.code)) (sym t.text_is) ∙ list_begun_lem kind layout.code bays lines known.word r.some r.few in
+      let begun : list_begun (has_code layout.code) text ≡ Ok at = ap (list_begun (has_code layout.code)) (sym t.text_is) ∙ ap (λ n. list_begun (has_code n) (first ++ lines)) (sym known.code) ∙ list_begun_lem kind name bays lines known.word r.some r.few in
       let list : list_listing kind text at ≡ listed_before es finished =
       ap (λ l. list_listing kind l at) (sym t.text_is)
-      ∙ listing_by_skips (line_at kind bays) (first ++ lines) (length first)
       ∙ ap (λ l. listing_by (line_at kind bays) l 0) (drop_at first lines (length first) refl ∙ sym (append-nil lines))
       ∙ lines_listed kind bays r.few es [] (holdable_valid layout kind laws bays es r.holdable) in
       let short = r.short in
@@ -113,8 +108,8 @@ module _ (layout : Layout) (kind : Wording) (laws : Laws layout kind) (known : K
     pub text_is : normal_form text ≡ first_line kind bays ++ entry_lines kind entries
     pub bytes_are : log_bytes layout bays entries ≡ bytes
 
-  packed_behind_lem : (text bytes : List ℕ) (room : ℕ) (x : Result Reading Refusal) → list_begun (λ c. eqb c layout.code) text ≡ x → meant bytes_of (packed_behind layout kind text room x) ≡ Ok bytes → Packed text bytes
-  packed_behind_lem text bytes room (Err r) is h = ok_err bytes r h
+  packed_behind_lem : (text bytes : List ℕ) (room : ℕ) (x : Result Reading Refusal) → list_begun (has_code layout.code) text ≡ x → meant bytes_of (packed_behind layout kind text room x) ≡ Ok bytes → Packed text bytes
+  packed_behind_lem text bytes room (Err r) is h = absurd cc
   packed_behind_lem text bytes room (Ok r) is h =
       let bays = r.bays in
       let list = list_listing kind text r in
@@ -127,7 +122,7 @@ module _ (layout : Layout) (kind : Wording) (laws : Laws layout kind) (known : K
       let place = packs_place layout room list on.0 told.0 on.2 in
       let whole = packed_listed layout room list 1 on.0 told.0 on.2 in
       let c : Contents = record { bays = bays; entries = es } in
-      let read : list_of kind layout.code text ≡ Ok c = ap (behind_first kind text) is ∙ ap (with_bays bays) whole in
+      let read : list_of kind layout.code text ≡ Ok c = ap (contents_from (list_listing kind text)) is ∙ ap (with_bays bays) whole in
       let valid = contents_valid kind layout.code text c laws.others read in
       record {
         bays = bays;
@@ -136,12 +131,12 @@ module _ (layout : Layout) (kind : Wording) (laws : Laws layout kind) (known : K
         few = valid.1;
         short = omega (arith, length-append (header_bits layout.code bays) (entries_bits layout es), ap length (bits_are layout list), head.place);
         valid = valid.2;
-        text_is = contents_written_back kind layout.code text c laws.others known.word read;
+        text_is = contents_written_back kind layout.code text c laws.others (ap (option_map code_of) known.word ∙ ap Some known.code) read;
         bytes_are = ap bytes_of (sym (log_is layout bays list) ∙ told.2) ∙ bits.2;
       }
 
   log_behind : (bytes : List ℕ) (room : ℕ) (c : Contents) (x : Result Header Refusal) → 1 ≤ c.bays → c.bays ≤ 32 → AllByRecursion (λ e. e.bay < c.bays) c.entries → length (first_line kind c.bays ++ entry_lines kind c.entries) ≤ room → behind_header layout bytes x ≡ Ok c → translated_behind layout kind bytes room x ≡ Ok (first_line kind c.bays ++ entry_lines kind c.entries)
-  log_behind bytes room c (Err r) some few among fits h = ok_err c r h
+  log_behind bytes room c (Err r) some few among fits h = absurd cc
   log_behind bytes room c (Ok head) some few among fits h =
       let told = with_bays_is head.bays (entries_of 1 (log_listing layout bytes head.bays)) c h in
       let es = c.entries in
@@ -160,44 +155,41 @@ module _ (layout : Layout) (kind : Wording) (laws : Laws layout kind) (known : K
   -- the log of a list, turned into a list again, is the list in its normal form
   pub list_comes_back : (text bytes : List ℕ) (room room' : ℕ) → meant bytes_of (packed_bits layout kind text room) ≡ Ok bytes → length (normal_form text) ≤ room' → translated layout kind bytes room' ≡ Ok (normal_form text)
   list_comes_back text bytes room room' h fits =
-      let p = packed_behind_lem text bytes room (list_begun (λ c. eqb c layout.code) text) refl h in
+      let p = packed_behind_lem text bytes room (list_begun (has_code layout.code) text) refl h in
       let holds = valid_holdable layout kind laws p.bays p.entries p.valid in
-      let read = log_reads layout p.bays p.entries p.short laws.tell known.code laws.narrow p.some p.few holds in
+      let read = log_reads layout p.bays p.entries p.short laws.tell (name, known.code) p.some p.few holds in
       let c : Contents = record { bays = p.bays; entries = p.entries } in
       let back = log_behind (log_bytes layout p.bays p.entries) room' c (header_of (one_kind layout.code) (log_bytes layout p.bays p.entries)) p.some p.few (holdable_among layout p.bays p.entries holds) (omega (arith, ap length p.text_is)) read in
       ap (λ b. translated layout kind b room') (sym p.bytes_are) ∙ back ∙ ap Ok (sym p.text_is)
 
   -- what a log was turned into tells the log's kind, and packs into the log
-  pub packs_again : (bytes : List ℕ) (room : ℕ) → AllByRecursion (λ b. b < 256) bytes → (x : Result (List ℕ) Refusal) → translated layout kind bytes room ≡ x → PacksAgain layout kind bytes x
+  pub packs_again : (bytes : List ℕ) (room : ℕ) → AllByRecursion (λ b. b < 256) bytes → (x : Result (List ℕ) Refusal) → translated layout kind bytes room ≡ x → PacksAgain name layout kind bytes x
   packs_again bytes room small (Err r) is = tt
   packs_again bytes room small (Ok text) is =
       let t = listed_behind bytes text room (header_of (one_kind layout.code) bytes) refl is in
       let r = log_again layout laws.tell bytes small (record { bays = t.bays; entries = t.entries }) t.reads in
       record {
-        told = ap (λ l. code_told (first_line_of (before 10 l))) (sym t.text_is) ∙ ap code_told (first_line_reads_back kind layout.code t.bays (entry_lines kind t.entries) known.word r.some r.few);
+        told = ap (λ l. kind_told (first_line_of (before 10 l))) (sym t.text_is) ∙ ap kind_told (first_line_reads_back kind name t.bays (entry_lines kind t.entries) known.word r.some r.few);
         back = λ room' fits. log_comes_back bytes text room room' small is fits;
       }
 
   -- what a list was packed into tells the list's kind, and turns into the list again
-  pub lists_again : (text : List ℕ) (room : ℕ) (x : Result (List ℕ) Refusal) → meant bytes_of (packed_bits layout kind text room) ≡ x → ListsAgain layout kind text x
+  pub lists_again : (text : List ℕ) (room : ℕ) (x : Result (List ℕ) Refusal) → meant bytes_of (packed_bits layout kind text room) ≡ x → ListsAgain name layout kind text x
   lists_again text room (Err r) is = tt
   lists_again text room (Ok bytes) is =
-      let p = packed_behind_lem text bytes room (list_begun (λ c. eqb c layout.code) text) refl is in
+      let p = packed_behind_lem text bytes room (list_begun (has_code layout.code) text) refl is in
       record {
         bays = p.bays;
-        told = ap (header_of any_kind) (sym p.bytes_are) ∙ log_tells layout p.bays p.entries p.short any_kind known.code laws.narrow p.some p.few;
+        told = ap (header_of any_kind) (sym p.bytes_are) ∙ log_tells layout p.bays p.entries p.short any_kind name known.code refl p.some p.few;
         back = λ room' fits. list_comes_back text bytes room room' is fits;
       }
 
 -- with the kind that a list tells, that goes for every list
-pub log_back : (layout : Layout) (kind : Wording) (bytes : List ℕ) (x : Result (List ℕ) Refusal) → ((text : List ℕ) (room : ℕ) → log_by_code text room (Ok layout.code) ≡ packed_bits layout kind text room) → PacksAgain layout kind bytes x → LogComesBack bytes x
-log_back layout kind bytes (Err r) which h = tt
-log_back layout kind bytes (Ok text) which h = λ room fits.
-    ap (meant bytes_of) (kind_by_code text room (first_line_of (before 10 text)))
-    ∙ ap (λ c. meant bytes_of (log_by_code text room c)) h.told ∙ ap (meant bytes_of) (which text room) ∙ h.back room fits
+pub log_back : (name : KindName) (bytes : List ℕ) (x : Result (List ℕ) Refusal) → PacksAgain name (layout_of name) (wording_of name) bytes x → LogComesBack bytes x
+log_back name bytes (Err r) h = tt
+log_back name bytes (Ok text) h = λ room fits. ap (λ k. meant bytes_of (log_by_kind text room k)) h.told ∙ h.back room fits
 
 -- with the kind that a log tells, that goes for every log
-pub list_back : (layout : Layout) (kind : Wording) (text : List ℕ) (x : Result (List ℕ) Refusal) → ((bytes : List ℕ) (room bays : ℕ) → text_by_kind bytes room (Ok (record { code = layout.code; bays = bays })) ≡ translated layout kind bytes room) → ListsAgain layout kind text x → ListComesBack text x
-list_back layout kind text (Err r) which h = tt
-list_back layout kind text (Ok bytes) which h = λ room fits.
-    ap (text_by_kind bytes room) h.told ∙ which bytes room h.bays ∙ h.back room fits
+pub list_back : (name : KindName) (text : List ℕ) (x : Result (List ℕ) Refusal) → ListsAgain name (layout_of name) (wording_of name) text x → ListComesBack text x
+list_back name text (Err r) h = tt
+list_back name text (Ok bytes) h = λ room fits. ap (text_by_kind bytes room) h.told ∙ h.back room fits

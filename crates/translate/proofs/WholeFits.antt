@@ -7,12 +7,11 @@ use Rattle.items.specs.Kinds.{Layout, Wording}
 use Rattle.items.specs.Lines.{fitted}
 use Rattle.items.specs.declared.entry.Entry.{Entry}
 use Rattle.items.specs.declared.refusal.Refusal.{Refusal}
-use Rattle.packed.specs.declared.packing.Packing.{Packing}
+use Rattle.packed.specs.declared.writing.Writing.{Writing}
 use Rattle.packed.specs.Logs.{Listing, finished, stopped, listed, entries_listed, also_listed, entries_of}
 use Rattle.packed.specs.Packing.{entry_bits, bit_room, header_packs, entry_packs}
 use Rattle.packed.specs.Trips.{entries_bits}
-use Rattle.packed.proofs.HeaderTrips.{ok_err}
-use Rattle.text.specs.declared.writing.Writing.{Writing}
+use Rattle.packed.specs.declared.writing.Writing.{Writing}
 use Rattle.text.specs.Lists.{first_line, entry_line, entry_lines}
 use Rattle.text.specs.Writing.{headed, begins, grown, adds}
 use Rattle.text.proofs.LineWalks.{listed_before}
@@ -23,7 +22,7 @@ use Rattle.translate.specs.Translation.{next, writes}
 module _ {S : Type 0} (add : S → Entry (List ℕ) → Result S Refusal) (goes : Listing → S → Result S Refusal) (stop : (r : _) (l : _) (s t : S) → goes (stopped r l) s ≡ Ok t → ⊥) (step : (e : Entry (List ℕ)) (rest : Listing) (s : S) → goes (listed e rest) s ≡ next (add s e) (goes rest)) where
   next_ok : (x : Result S Refusal) (go : S → Result S Refusal) (t : S) → next x go ≡ Ok t → (s : S) × (go s ≡ Ok t)
   next_ok (Ok s) go t h = (s, h)
-  next_ok (Err r) go t h = ok_err t r h
+  next_ok (Err r) go t h = absurd cc
 
   -- what was written whole was listed to its end
   pub listed_whole : (l : Listing) (n : ℕ) (s t : S) → goes l s ≡ Ok t → entries_of n l ≡ Ok (entries_listed l)
@@ -33,11 +32,11 @@ module _ {S : Type 0} (add : S → Entry (List ℕ) → Result S Refusal) (goes 
       let on = next_ok (add s e) (goes rest) t (sym (step e rest s) ∙ h) in
       ap (also_listed e) (listed_whole rest (n + 1) on.0 t on.1)
 
-pub packed_listed : (kind : Layout) (room : ℕ) (l : Listing) (n : ℕ) (p q : Packing) → packs kind room l p ≡ Ok q → entries_of n l ≡ Ok (entries_listed l)
-packed_listed kind room = listed_whole (entry_packs kind room) (packs kind room) (λ r l s t h. ok_err t _ h) (λ e rest s. refl)
+pub packed_listed : (kind : Layout) (room : ℕ) (l : Listing) (n : ℕ) (p q : Writing) → packs kind room l p ≡ Ok q → entries_of n l ≡ Ok (entries_listed l)
+packed_listed kind room = listed_whole (entry_packs kind room) (packs kind room) (λ r l s t h. absurd cc) (λ e rest s. refl)
 
 pub written_listed : (kind : Wording) (code room : ℕ) (l : Listing) (n : ℕ) (w v : Writing) → writes kind code room l w ≡ Ok v → entries_of n l ≡ Ok (entries_listed l)
-written_listed kind code room = listed_whole (adds kind code room) (writes kind code room) (λ r l s t h. ok_err t _ h) (λ e rest s. refl)
+written_listed kind code room = listed_whole (adds kind code room) (writes kind code room) (λ r l s t h. absurd cc) (λ e rest s. refl)
 
 -- the entries of a listing that just lists them
 pub listed_before_lem : (es : List (Entry (List ℕ))) → entries_listed (listed_before es finished) ≡ es
@@ -45,7 +44,7 @@ listed_before_lem [] = refl
 listed_before_lem (e ∷ es) = ap (λ l. e ∷ l) (listed_before_lem es)
 
 -- entries that have room are packed whole
-pub packs_fit : (kind : Layout) (room : ℕ) (es : List (Entry (List ℕ))) (p : Packing) → kind.code ≡ p.code → AllByRecursion (λ e. e.bay < p.bays) es → p.place + length (entries_bits kind es) ≤ bit_room room → (q : Packing) × (packs kind room (listed_before es finished) p ≡ Ok q)
+pub packs_fit : (kind : Layout) (room : ℕ) (es : List (Entry (List ℕ))) (p : Writing) → kind.code ≡ p.code → AllByRecursion (λ e. e.bay < p.bays) es → p.place + length (entries_bits kind es) ≤ bit_room room → (q : Writing) × (packs kind room (listed_before es finished) p ≡ Ok q)
 packs_fit kind room [] p code among fits = (p, refl)
 packs_fit kind room (e ∷ es) p code among fits =
     let long : length (entries_bits kind (e ∷ es)) ≡ length (entry_bits kind e) + length (entries_bits kind es) = length-append (entry_bits kind e) (entries_bits kind es) in

@@ -1,22 +1,18 @@
 -- From a text list to a packed log. Assumes nothing.
-use Rattle.std.specs.Prelude.{◌≡◌, ℕ, ◌+◌, Bool, cond, List, [], ◌++◌, Some, None, Ok, Err, Option, Result, ◌==◌, nat_eq}
-use Rattle.kinds.specs.Articles.{article_layout, article_wording}
-use Rattle.kinds.specs.FieldSets.{field_set_layout, field_set_wording}
+use Rattle.std.specs.Prelude.{◌≡◌, ℕ, ◌+◌, Bool, List, [], ◌++◌, Ok, Err, Result}
 use Rattle.items.specs.Kinds.{Layout, Wording, meant}
 use Rattle.items.specs.Lines.{pasted}
-use Rattle.kinds.specs.Spans.{span_layout, span_wording}
 use Rattle.items.specs.declared.refusal.Refusal.{Refusal}
-use Rattle.items.specs.declared.refusal.Reason.TheVariants.{MalformedLine}
-use Rattle.packed.specs.declared.packing.Packing.{Packing}
+use Rattle.items.specs.declared.kind_name.KindName.{KindName}
+use Rattle.packed.specs.declared.writing.Writing.{Writing}
 use Rattle.packed.specs.declared.reading.Reading.{Reading}
 use Rattle.packed.specs.Bits.{bits_of, bytes_of}
 use Rattle.packed.specs.Logs.{Listing, finished, stopped, listed}
 use Rattle.packed.specs.Packing.{header_bits, entry_bits, padded, header_packs, entry_packs}
-use Rattle.text.specs.Reads.{FirstLine, first_line_of, list_begun}
-use Rattle.translate.specs.Translation.{next}
+use Rattle.text.specs.Reads.{first_line_of, kind_told, has_code, list_begun}
+use Rattle.translate.specs.Translation.{next, layout_of, wording_of}
 use Rattle.text.specs.Whole.{list_listing}
 use Rattle.text.specs.Words.{before}
-use Rattle.text.specs.Writing.{text_refusal}
 
 -- the bits of the entries that are listed
 abbrev pub entries_bits : Layout → Listing → List Bool
@@ -29,7 +25,7 @@ abbrev pub log_bits : Layout → ℕ → Listing → List Bool
 log_bits kind bays entries = padded 0 (header_bits kind.code bays ++ entries_bits kind entries)
 
 -- packing entry after entry into so much room: the log then, or the first refusal of the list or of the log
-abbrev pub packs : Layout → ℕ → Listing → Packing → Result Packing Refusal
+abbrev pub packs : Layout → ℕ → Listing → Writing → Result Writing Refusal
 packs kind room finished p = Ok p
 packs kind room (stopped r l) p = Err (record { reason = r; layer = l; entry = p.entries + 1 })
 packs kind room (listed e rest) p = next (entry_packs kind room p e) (packs kind room rest)
@@ -42,18 +38,16 @@ packed_behind layout kind text room (Ok r) =
 
 -- a list of one kind as the bits of a log, in so much room
 abbrev pub packed_bits : Layout → Wording → List ℕ → ℕ → Result (List Bool) Refusal
-packed_bits layout kind text room = packed_behind layout kind text room (list_begun (λ c. nat_eq c layout.code) text)
+packed_bits layout kind text room = packed_behind layout kind text room (list_begun (has_code layout.code) text)
 
 -- a list as a log, by the kind that its first line tells
-abbrev pub log_by_kind : List ℕ → ℕ → Option FirstLine → Result (List Bool) Refusal
-log_by_kind text room None = Err (text_refusal MalformedLine 0)
-log_by_kind text room (Some l) =
-    cond (l.code == 1) (packed_bits article_layout article_wording text room)
-    (cond (l.code == 2) (packed_bits span_layout span_wording text room) (packed_bits field_set_layout field_set_wording text room))
+abbrev pub log_by_kind : List ℕ → ℕ → Result KindName Refusal → Result (List Bool) Refusal
+log_by_kind text room (Err r) = Err r
+log_by_kind text room (Ok kind) = packed_bits (layout_of kind) (wording_of kind) text room
 
 -- a list of any of the three kinds as the bytes of a log, in so much room, or the first refusal
 abbrev pub log_of_text : List ℕ → ℕ → Result (List ℕ) Refusal
-log_of_text text room = meant bytes_of (log_by_kind text room (first_line_of (before 10 text)))
+log_of_text text room = meant bytes_of (log_by_kind text room (kind_told (first_line_of (before 10 text))))
 
 -- the bits of memory after one pass packed a log into it; a pass that was refused may have written there, so it is tried
 -- first on memory that nobody keeps

@@ -1,17 +1,17 @@
 -- From a packed log to a text list. Assumes nothing.
-use Rattle.std.specs.Prelude.{◌≡◌, ℕ, ◌+◌, cond, List, [], ◌++◌, Ok, Err, Result, ◌==◌}
+use Rattle.std.specs.Prelude.{◌≡◌, ℕ, ◌+◌, List, [], ◌++◌, Ok, Err, Result}
 use Rattle.kinds.specs.Articles.{article_layout, article_wording}
 use Rattle.kinds.specs.FieldSets.{field_set_layout, field_set_wording}
 use Rattle.items.specs.Kinds.{Layout, Wording, meant}
 use Rattle.items.specs.Lines.{pasted}
 use Rattle.kinds.specs.Spans.{span_layout, span_wording}
+use Rattle.items.specs.declared.kind_name.KindName.{KindName}
+use Rattle.items.specs.declared.kind_name.KindName.TheVariants.{Article, Span, FieldSet}
 use Rattle.items.specs.declared.refusal.Refusal.{Refusal}
 use Rattle.packed.specs.declared.header.Header.{Header}
 use Rattle.packed.specs.Headers.{any_kind, one_kind, header_of}
 use Rattle.packed.specs.Logs.{Listing, finished, stopped, listed, log_listing}
-use Rattle.text.specs.declared.writing.Pass.{Pass}
-use Rattle.text.specs.declared.writing.Pass.TheVariants.{Measure, Write}
-use Rattle.text.specs.declared.writing.Writing.{Writing}
+use Rattle.packed.specs.declared.writing.Writing.{Writing}
 use Rattle.text.specs.Lists.{first_line, entry_line}
 use Rattle.text.specs.Writing.{begins, adds}
 
@@ -50,12 +50,21 @@ translated_behind layout kind bytes room (Ok h) =
 abbrev pub translated : Layout → Wording → List ℕ → ℕ → Result (List ℕ) Refusal
 translated layout kind bytes room = translated_behind layout kind bytes room (header_of (one_kind layout.code) bytes)
 
+-- the packed form of each kind, and its form in a list
+abbrev pub layout_of : KindName → Layout
+layout_of Article = article_layout
+layout_of Span = span_layout
+layout_of FieldSet = field_set_layout
+
+abbrev pub wording_of : KindName → Wording
+wording_of Article = article_wording
+wording_of Span = span_wording
+wording_of FieldSet = field_set_wording
+
 -- a log as a list, by the kind that its header tells
 abbrev pub text_by_kind : List ℕ → ℕ → Result Header Refusal → Result (List ℕ) Refusal
 text_by_kind bytes room (Err r) = Err r
-text_by_kind bytes room (Ok h) =
-    cond (h.code == 1) (translated article_layout article_wording bytes room)
-    (cond (h.code == 2) (translated span_layout span_wording bytes room) (translated field_set_layout field_set_wording bytes room))
+text_by_kind bytes room (Ok h) = translated (layout_of h.kind) (wording_of h.kind) bytes room
 
 -- a log of any of the three kinds as a list, in so much room, or the first refusal
 abbrev pub text_of : List ℕ → ℕ → Result (List ℕ) Refusal
@@ -66,8 +75,12 @@ abbrev pub translated_memory : List ℕ → Result (List ℕ) Refusal → List �
 translated_memory memory (Ok text) = pasted memory 0 text
 translated_memory memory (Err r) = memory
 
--- what a pass over a log leaves in memory: the whole list, if it was written
-abbrev pub Passed : Pass → List ℕ → Result (List ℕ) Refusal → List ℕ → Type 0
-Passed Measure before text after = after ≡ before
-Passed Write before (Ok text) after = after ≡ pasted before 0 text
-Passed Write before (Err r) after = Unit {0}
+-- memory after a call of a pass, by what the pass leaves where bytes go to a place; as it was where the call was refused
+abbrev pub memory_left : {X : Type 0} → (List ℕ → ℕ → List ℕ → List ℕ) → Result X Refusal → List ℕ → ℕ → List ℕ → List ℕ
+memory_left left (Ok x) memory at bytes = left memory at bytes
+memory_left left (Err r) memory at bytes = memory
+
+-- what a whole pass over a log leaves in memory: the whole list, or the front of it that came before the refusal
+abbrev pub Passed : (List ℕ → ℕ → List ℕ → List ℕ) → List ℕ → Result (List ℕ) Refusal → List ℕ → Type 0
+Passed left before (Ok text) after = after ≡ left before 0 text
+Passed left before (Err r) after = (front : List ℕ) × (after ≡ left before 0 front)

@@ -1,6 +1,7 @@
 // Translations: from a packed log to a text list, and from a text list to a packed log.
 #![tactic(auto)]
 
+mod pass;
 mod to_log;
 mod to_text;
 

@@ -1,15 +1,16 @@
 // From a text list to a packed log.
 ghost use Rattle.std.specs.Prelude.{◌≡◌, ◌/◌, length};
 ghost use Rattle.items.specs.Kinds.{meant};
+ghost use Rattle.items.specs.declared.kind_name.KindName.{KindName};
 ghost use Rattle.packed.specs.Bits.{bytes_of};
 ghost use Rattle.translate.specs.Packs.{packed_bits, PackedInto, log_of_text};
 ghost use Rattle.translate.specs.Translation.{translated_memory};
 ghost use Rattle.translate.specs.Trips.{Known, ListsAgain, ListComesBack};
 
-use items::{PackedKind, Refusal, TextKind};
+use items::{KindName, Refusal, TextKind};
 use kinds::{Article, FieldSet, Span};
-use packed::{Blank, MOST_BYTES, Step};
-use text::{ListReader, list_code};
+use packed::{Blank, EntryReader, MOST_BYTES};
+use text::{ListReader, list_kind};
 
 // Packs a list of this kind into memory, and answers how many bytes the log has.
 fn pack<K: TextKind + Copy>(text: &[u8], out: &mut [u8]) -> Result<usize, Refusal>
@@ -22,7 +23,7 @@ fn pack<K: TextKind + Copy>(text: &[u8], out: &mut [u8]) -> Result<usize, Refusa
         Ok(started) => started,
         Err(back) => return Err(back.refusal),
     };
-    while let Step::Taken(entry) = reader.next(text)? {
+    while let Some(entry) = reader.next(text)? {
         log = match log.entry(out, &entry) {
             Ok(started) => started,
             Err(back) => return Err(back.refusal),
@@ -35,7 +36,7 @@ fn pack<K: TextKind + Copy>(text: &[u8], out: &mut [u8]) -> Result<usize, Refusa
 fn pack_whole<K: TextKind + Copy>(text: &[u8], out: &mut [u8]) -> Result<usize, Refusal>
     ensures answer { result ≡ meant length (meant bytes_of (packed_bits K.PackedKind.layout K.TextKind.wording text.now (length out.old))) }
     ensures memory { out.new ≡ translated_memory out.old (meant bytes_of (packed_bits K.PackedKind.layout K.TextKind.wording text.now (length out.old))) }
-    ensures again { Known K.PackedKind.layout K.TextKind.wording → ListsAgain K.PackedKind.layout K.TextKind.wording text.now (meant bytes_of (packed_bits K.PackedKind.layout K.TextKind.wording text.now (length out.old))) }
+    ensures again { (name : KindName) → Known name K.PackedKind.layout K.TextKind.wording → ListsAgain name K.PackedKind.layout K.TextKind.wording text.now (meant bytes_of (packed_bits K.PackedKind.layout K.TextKind.wording text.now (length out.old))) }
 {
     let mut trial = [0u8; MOST_BYTES];
     let room = out.len().min(MOST_BYTES);
@@ -50,12 +51,9 @@ pub fn text_to_log(text: &[u8], out: &mut [u8]) -> Result<usize, Refusal>
     ensures memory { out.new ≡ translated_memory out.old (log_of_text text.now (length out.old)) }
     ensures comes_back { ListComesBack text.now (log_of_text text.now (length out.old)) }
 {
-    let code = list_code(text)?;
-    if code == Article::kind_code() {
-        pack_whole::<Article>(text, out)
-    } else if code == Span::kind_code() {
-        pack_whole::<Span>(text, out)
-    } else {
-        pack_whole::<FieldSet>(text, out)
+    match list_kind(text)? {
+        KindName::Article => pack_whole::<Article>(text, out),
+        KindName::Span => pack_whole::<Span>(text, out),
+        KindName::FieldSet => pack_whole::<FieldSet>(text, out),
     }
 }

@@ -19,8 +19,8 @@ digits_on c =
     let on : all_ascii_digits (drop i digits) ≡ (is_ascii_digit (get_or digits i 0) && all_ascii_digits (drop (i + 1) digits)) = at_drop_more all_ascii_digits digits i 0 c.loop-b-test.true in
     and_parts (is_ascii_digit (get_or digits i 0)) (all_ascii_digits (drop (i + 1) digits)) (sym on ∙ c.loop-b.invariant.1)
 
-pub overflow_sub-value : goal.overflow_sub-value
-overflow_sub-value c = (digit_range _ (digits_on (goal.at.overflow_sub-value c).In-loop-b).0).0
+pub overflow_sub-b : goal.overflow_sub-b
+overflow_sub-b c = (digit_range _ (digits_on (goal.at.overflow_sub-b c).In-loop-b).0).0
 
 pub loop-b-preserved : goal.loop-b-preserved
 loop-b-preserved c =
@@ -30,9 +30,9 @@ loop-b-preserved c =
     let d = digits_on (goal.at.loop-b-preserved c).In-loop-b in
     let range = digit_range (get_or digits i 0) d.0 in
     let power : 10 ^ (i + 1) ≡ 10 ^ i * 10 = ap (λ k. 10 ^ k) (add-one i) ∙ pow-suc 10 i in (
-      sym (at_drop_more (read_on value) digits i 0 c.loop-b-test.true) ∙ c.loop-b.invariant.0,
+      ap (λ n. read_on (10 * value + n) (drop (i + 1) digits)) c.from.ensures ∙ sym (at_drop_more (read_on value) digits i 0 c.loop-b-test.true) ∙ c.loop-b.invariant.0,
       d.1,
-      omega (arith, c.loop-b.invariant.2, power, range.1),
+      omega (arith, c.loop-b.invariant.2, power, range.1, c.from.ensures),
     )
 
 pub returns : goal.returns

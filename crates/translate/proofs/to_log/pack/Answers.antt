@@ -5,21 +5,22 @@ use Rattle.items.specs.Kinds.{meant}
 use Rattle.items.specs.Lines.{pasted}
 use Rattle.items.specs.declared.refusal.Refusal.{Refusal}
 use Rattle.items.proofs.Pasting.{pasted_none}
-use Rattle.packed.specs.declared.packing.Packing.{Packing}
+use Rattle.packed.specs.declared.writing.Writing.{Writing}
 use Rattle.packed.specs.Bits.{bits_of}
-use Rattle.packed.specs.Entries.{step_meant}
+use Rattle.std.specs.Option.{option_map}
 use Rattle.packed.specs.Packing.{header_bits, entry_bits, padding_bits, padded, header_packs, entry_packs}
-use Rattle.packed.proofs.Walks.{listing_by_skips, listing_from, MovedBy, step_taken_by, step_end_by, step_refused_by}
+use Rattle.packed.proofs.Walks.{MovedBy, step_taken_by, step_end_by, step_refused_by}
 use Rattle.text.specs.Whole.{list_listing}
 use Rattle.translate.specs.Packs.{entries_bits as listing_bits, log_bits, packs, packed_bits, PackedInto}
-use Rattle.text.specs.Reads.{line_at}
+use Rattle.text.specs.Reads.{line_at, has_code}
 use Rattle.translate.specs.Translation.{next}
 use Rattle.packed.proofs.WriteTrips.{entry_packed, header_packed}
-use Rattle.text.proofs.LineWalks.{finds_lines}
-use Rattle.translate.proofs.Packings.{begun_none, packs_begin, packs_on, packs_refused, packs_stopped, packs_end, packed_as, packs_place, ZeroBehind, packed_pieces, packed_zero, byte_count}
+use Rattle.packed.specs.Readers.{listing_from}
+use Rattle.text.specs.ReaderLaws.{finds_lines, begins_at_none}
+use Rattle.translate.proofs.Packings.{packs_begin, packs_on, packs_refused, packs_stopped, packs_end, packed_as, packs_place, ZeroBehind, packed_pieces, packed_zero, byte_count}
 use Rattle.translate.proofs.to_log.pack.Given as given
 use Rattle.translate.proofs.to_log.pack.Goals as goal
-use Rattle.translate.proofs.to_log.pack.Goals.{In-Ok, In-Taken}
+use Rattle.translate.proofs.to_log.pack.Goals.{In-Ok, In-Some}
 
 module _ (g : given.Over) (c : In-Ok g) where
   -- the memory is as long as it was
@@ -36,7 +37,7 @@ module _ (g : given.Over) (c : In-Ok g) where
   begun_place = (header_packed g.K.PackedKind.layout.code (length c.header.new.out) c.in_ok-reader.reader.at.bays c.in-Ok.started.log begun-log).place
 
   -- the whole packing, by how the pass goes on
-  outcome : (x : Result Packing Refusal) → packs g.K.PackedKind.layout (length c.header.new.out) (list_listing g.K.TextKind.wording c.args.text.now c.in_ok-reader.reader.at) c.in-Ok.started.log ≡ x → packed_bits g.K.PackedKind.layout g.K.TextKind.wording c.args.text.now (length c.args.out.now) ≡ meant (λ _. log_bits g.K.PackedKind.layout c.in_ok-reader.reader.at.bays (list_listing g.K.TextKind.wording c.args.text.now c.in_ok-reader.reader.at)) x
+  outcome : (x : Result Writing Refusal) → packs g.K.PackedKind.layout (length c.header.new.out) (list_listing g.K.TextKind.wording c.args.text.now c.in_ok-reader.reader.at) c.in-Ok.started.log ≡ x → packed_bits g.K.PackedKind.layout g.K.TextKind.wording c.args.text.now (length c.args.out.now) ≡ meant (λ _. log_bits g.K.PackedKind.layout c.in_ok-reader.reader.at.bays (list_listing g.K.TextKind.wording c.args.text.now c.in_ok-reader.reader.at)) x
   outcome x is =
       let layout = g.K.PackedKind.layout in
       let kind = g.K.TextKind.wording in
@@ -64,19 +65,19 @@ loop-entry-init g c =
     let reader = c.in_ok-reader.reader.at in
     let log = c.in-Ok.started.log in
     let memory = bits_of c.header.new.out in (
-      packs_begin layout kind text (length c.header.new.out) reader log (begun_none _ text reader (sym c.in_ok-reader.ensures)) (begun-log g c),
+      packs_begin layout kind text (length c.header.new.out) reader log (begins_at_none (has_code layout.code) text reader (sym c.in_ok-reader.ensures)) (begun-log g c),
       subst (ZeroBehind memory) (sym (begun_place g c)) (pasted_none memory 16),
-      sym (ap (λ l. pasted memory log.place (padded log.place (listing_bits layout l))) (listing_by_skips (line_at kind reader.bays) text reader.place)),
+      refl,
     )
 
-moved : (g : given.Over) (c : In-Taken g) → MovedBy 1 (line_at g.K.TextKind.wording) c.args.text.now c.loop-entry.reader.at c.next.new.self.at (entry_meant g.K.Kind.fields c.in-Taken.entry)
+moved : (g : given.Over) (c : In-Some g) → MovedBy 1 (line_at g.K.TextKind.wording) c.args.text.now c.loop-entry.reader.at c.next.new.self.at (entry_meant g.K.Kind.fields c.in-Some.entry)
 moved g c =
     let told = c.in_ok-entry.ensures in
     let kind = g.K.TextKind.wording in
-    step_taken_by 1 (line_at kind) (finds_lines kind) c.args.text.now c.loop-entry.reader.at _ refl _ _ _ (sym (ap (λ s. Ok (step_meant g.K.Kind.fields s)) c.in-Taken.is) ∙ told.answer) told.at
+    step_taken_by 1 (line_at kind) (finds_lines kind) c.args.text.now c.loop-entry.reader.at _ refl _ _ _ (sym (ap (λ s. Ok (option_map (entry_meant g.K.Kind.fields) s)) c.in-Some.is) ∙ told.answer) told.at
 
 pub loop-entry-smaller : goal.loop-entry-smaller
-loop-entry-smaller g c = let m = moved g (goal.at.loop-entry-smaller g c).In-Taken in omega (arith, m.further, m.left, length-drop c.loop-entry.reader.at.place c.args.text.now)
+loop-entry-smaller g c = let m = moved g (goal.at.loop-entry-smaller g c).In-Some in omega (arith, m.further, m.left, length-drop c.loop-entry.reader.at.place c.args.text.now)
 
 pub returns-in_err-entry : goal.returns-in_err-entry
 returns-in_err-entry g c =
@@ -99,9 +100,9 @@ returns-in-Err-entry g c =
     let kind = g.K.TextKind.wording in
     let h = (goal.at.returns-in-Err-entry g c).In-Ok in
     let x = c.in-Err-entry.back.refusal in
-    let e = entry_meant g.K.Kind.fields c.in-Taken.entry in
+    let e = entry_meant g.K.Kind.fields c.in-Some.entry in
     let refused = sym (c.in-Err-entry.ensures.answer ∙ ap (λ n. entry_packs layout n c.loop-entry.log.log e) c.loop-entry.auto.out) in
-    let none = outcome g h (Err x) (packs_refused layout kind c.args.text.now (length c.header.new.out) c.loop-entry.invariant.0 c.next.new.self.at e x (moved g (goal.at.returns-in-Err-entry g c).In-Taken) refused) in
+    let none = outcome g h (Err x) (packs_refused layout kind c.args.text.now (length c.header.new.out) c.loop-entry.invariant.0 c.next.new.self.at e x (moved g (goal.at.returns-in-Err-entry g c).In-Some) refused) in
     record {
       answer = sym (ap (meant (λ bits. length bits / 8)) none);
       memory = subst (λ y. PackedInto c.args.out.now y c.entry.new.out) (sym none) tt;
@@ -119,8 +120,8 @@ loop-entry-preserved g c =
     let after = bits_of c.entry.new.out in
     let p = c.loop-entry.log.log in
     let p' = c.in-Ok-entry.started.log in
-    let e = entry_meant g.K.Kind.fields c.in-Taken.entry in
-    let m = moved g (goal.at.loop-entry-preserved g c).In-Taken in
+    let e = entry_meant g.K.Kind.fields c.in-Some.entry in
+    let m = moved g (goal.at.loop-entry-preserved g c).In-Some in
     let added : entry_packs layout room p e ≡ Ok p' = sym (told.answer ∙ ap (λ n. entry_packs layout n p e) c.loop-entry.auto.out) in
     let further = (entry_packed layout room p e p' added).place in
     let bits = entry_bits layout e in
@@ -148,7 +149,7 @@ returns g c =
     let list = list_listing kind text reader in
     let head = header_bits layout.code reader.bays in
     let told = c.in_ok-entry.ensures in
-    let ends = step_end_by 1 (line_at kind) (finds_lines kind) text c.loop-entry.reader.at _ refl _ (sym (ap (λ s. Ok (step_meant g.K.Kind.fields s)) c.in_default.is) ∙ told.answer) in
+    let ends = step_end_by 1 (line_at kind) (finds_lines kind) text c.loop-entry.reader.at _ refl _ (sym (ap (λ s. Ok (option_map (entry_meant g.K.Kind.fields) s)) c.in_default.is) ∙ told.answer) in
     let whole = packs_end layout kind text room inv.0 ends in
     let done = outcome g h (Ok log) whole in
     let long : log.place ≡ length (head ++ listing_bits layout list) = omega (arith, packs_place layout room list c.in-Ok.started.log log whole, begun_place g h, length-append head (listing_bits layout list)) in

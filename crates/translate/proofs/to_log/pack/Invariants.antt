@@ -2,7 +2,7 @@ use Rattle.std.proofs.Common.{◌≡◌, ◌-◌, length}
 use Rattle.items.specs.Lines.{pasted}
 use Rattle.packed.specs.Bits.{bits_of}
 use Rattle.packed.specs.Packing.{padded}
-use Rattle.packed.proofs.Walks.{listing_from}
+use Rattle.packed.specs.Readers.{listing_from}
 use Rattle.text.specs.Whole.{list_listing}
 use Rattle.translate.specs.Packs.{entries_bits as listing_bits}
 use Rattle.text.specs.Reads.{line_at}

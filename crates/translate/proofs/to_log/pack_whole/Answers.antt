@@ -20,7 +20,7 @@ laws : (g : given.Over) → Laws g.K.PackedKind.layout g.K.TextKind.wording
 laws g =
     let log = g.met.K.PackedKind in
     let list = g.met.K.TextKind in
-    record { narrow = log.narrow.0; tell = log.bits_are_an_item; shown = list.packed_is_shown; packed = list.shown_is_packed; others = list.others_are_refused }
+    record { tell = log.bits_are_an_item; shown = list.packed_is_shown; packed = list.shown_is_packed; others = list.others_are_refused }
 
 -- a log may use as much of the trial's memory as of the caller's
 trial_room : (xs : List ℕ) (room n : ℕ) → length xs ≡ 65536 → room ≡ min n 65536 → bit_room (length (take (room - 0) (drop 0 xs))) ≡ bit_room n
@@ -44,7 +44,7 @@ returns-in_err-pack g c =
     record {
       answer = p.1 ∙ ap Err p.2 ∙ sym (ap (λ x. meant length (meant bytes_of x)) refused);
       memory = sym (ap (λ x. translated_memory out (meant bytes_of x)) refused);
-      again = λ known. lists_again layout kind (laws g) known text (length out) _ refl;
+      again = λ name known. lists_again layout kind (laws g) name known text (length out) _ refl;
     }
 
 pub returns : goal.returns
@@ -65,5 +65,5 @@ returns g c =
     record {
       answer = c.pack-2.ensures.answer ∙ packed_count (length out) (packed_bits layout kind text (length out)) fits;
       memory = packed_bytes out after (packed_bits layout kind text (length out)) n fits was small (ap (meant (λ bits. length bits / 8)) (sym same) ∙ sym tried) c.pack-2.ensures.memory;
-      again = λ known. lists_again layout kind (laws g) known text (length out) _ refl;
+      again = λ name known. lists_again layout kind (laws g) name known text (length out) _ refl;
     }

@@ -1,52 +1,23 @@
-use Rattle.std.proofs.Common.{◌≡◌, ℕ, List, length, Ok, Result, sym, refl, ap, ◌∙◌, subst}
-use Rattle.std.proofs.lemmas.Bool.{cond-true, cond-false, eq-eqb, ne_eqb}
-use Rattle.items.specs.Kinds.{Layout, Wording, meant}
-use Rattle.items.specs.declared.refusal.Refusal.{Refusal}
-use Rattle.kinds.specs.Articles.{article_layout, article_wording}
-use Rattle.kinds.specs.FieldSets.{field_set_layout, field_set_wording}
-use Rattle.kinds.specs.Spans.{span_layout, span_wording}
-use Rattle.translate.specs.Packs.{packed_bits}
-use Rattle.translate.specs.Translation.{translated, text_by_kind, text_of, translated_memory}
+use Rattle.std.proofs.Common.{◌≡◌, ℕ, List, Ok, refl, sym, ap, ◌∙◌, subst}
+use Rattle.items.specs.declared.kind_name.KindName.{KindName}
+use Rattle.items.specs.declared.kind_name.KindName.TheVariants.{Article, Span, FieldSet}
+use Rattle.packed.specs.declared.header.Header.{Header}
+use Rattle.packed.specs.Headers.{any_kind, header_of}
+use Rattle.translate.specs.Translation.{translated, layout_of, wording_of, text_by_kind, text_of}
 use Rattle.translate.specs.Trips.{PacksAgain, LogComesBack}
-use Rattle.translate.proofs.Listed.{log_by_code}
 use Rattle.translate.proofs.RoundTrips.{log_back}
 use Rattle.translate.proofs.to_text.log_to_text.Goals as goal
 
--- the answer by the kind that the log tells
-by_kind : (layout : Layout) (kind : Wording) (bytes out after : List ℕ) (r : Result ℕ Refusal) → ((text : List ℕ) (room : ℕ) → log_by_code text room (Ok layout.code) ≡ packed_bits layout kind text room) → text_of bytes (length out) ≡ translated layout kind bytes (length out) → r ≡ meant length (translated layout kind bytes (length out)) → after ≡ translated_memory out (translated layout kind bytes (length out)) → PacksAgain layout kind bytes (translated layout kind bytes (length out)) → record { answer : r ≡ meant length (text_of bytes (length out)); memory : after ≡ translated_memory out (text_of bytes (length out)); comes_back : LogComesBack bytes (text_of bytes (length out)) }
-by_kind layout kind bytes out after r which is answer memory again =
-    record {
-      answer = answer ∙ sym (ap (meant length) is);
-      memory = memory ∙ sym (ap (translated_memory out) is);
-      comes_back = subst (LogComesBack bytes) (sym is) (log_back layout kind bytes (translated layout kind bytes (length out)) which again);
-    }
+-- by the kind that the log tells
+back : (name : KindName) (bytes : List ℕ) (room : ℕ) (h : Header) → Ok h ≡ header_of any_kind bytes → h.kind ≡ name → PacksAgain name (layout_of name) (wording_of name) bytes (translated (layout_of name) (wording_of name) bytes room) → LogComesBack bytes (text_of bytes room)
+back name bytes room h told is again =
+    subst (LogComesBack bytes) (sym (ap (λ k. translated (layout_of k) (wording_of k) bytes room) is) ∙ ap (text_by_kind bytes room) told) (log_back name bytes _ again)
 
-pub returns-then-code-kind_code : goal.returns-then-code-kind_code
-returns-then-code-kind_code c =
-    let bytes = c.args.bytes.now in
-    let out = c.args.out.now in
-    let told = c.translate.ensures in
-    let is = ap (text_by_kind bytes (length out)) (sym c.in_ok-code.ensures) ∙ cond-true _ _ _ (eq-eqb _ _ (c.if-code-kind_code.true ∙ c.kind_code.ensures)) in
-    by_kind article_layout article_wording bytes out _ _ (λ text room. refl) is told.answer told.memory (told.again (record { code = refl; word = refl }))
+pub returns-in-Article-clause-comes_back : goal.returns-in-Article-clause-comes_back
+returns-in-Article-clause-comes_back c = back Article c.args.bytes.now _ c.in_ok-read_header.field-0 c.in_ok-read_header.ensures c.in-Article.is (c.translate.ensures.again Article (record { code = refl; word = refl }))
 
-pub returns-then-code-kind_code-2 : goal.returns-then-code-kind_code-2
-returns-then-code-kind_code-2 c =
-    let bytes = c.args.bytes.now in
-    let out = c.args.out.now in
-    let told = c.translate-then-code-kind_code-2.ensures in
-    let is =
-    ap (text_by_kind bytes (length out)) (sym c.in_ok-code.ensures)
-    ∙ cond-false _ _ _ (ne_eqb _ _ (λ e. c.if-code-kind_code.false (e ∙ sym c.kind_code.ensures)))
-    ∙ cond-true _ _ _ (eq-eqb _ _ (c.if-code-kind_code-2.true ∙ c.kind_code-else-code-kind_code.ensures)) in
-    by_kind span_layout span_wording bytes out _ _ (λ text room. refl) is told.answer told.memory (told.again (record { code = refl; word = refl }))
+pub returns-in-Span-clause-comes_back : goal.returns-in-Span-clause-comes_back
+returns-in-Span-clause-comes_back c = back Span c.args.bytes.now _ c.in_ok-read_header.field-0 c.in_ok-read_header.ensures c.in-Span.is (c.translate-in-Span.ensures.again Span (record { code = refl; word = refl }))
 
-pub returns-else-code-kind_code-2 : goal.returns-else-code-kind_code-2
-returns-else-code-kind_code-2 c =
-    let bytes = c.args.bytes.now in
-    let out = c.args.out.now in
-    let told = c.translate-else-code-kind_code-2.ensures in
-    let is =
-    ap (text_by_kind bytes (length out)) (sym c.in_ok-code.ensures)
-    ∙ cond-false _ _ _ (ne_eqb _ _ (λ e. c.if-code-kind_code.false (e ∙ sym c.kind_code.ensures)))
-    ∙ cond-false _ _ _ (ne_eqb _ _ (λ e. c.if-code-kind_code-2.false (e ∙ sym c.kind_code-else-code-kind_code.ensures))) in
-    by_kind field_set_layout field_set_wording bytes out _ _ (λ text room. refl) is told.answer told.memory (told.again (record { code = refl; word = refl }))
+pub returns-in-FieldSet-clause-comes_back : goal.returns-in-FieldSet-clause-comes_back
+returns-in-FieldSet-clause-comes_back c = back FieldSet c.args.bytes.now _ c.in_ok-read_header.field-0 c.in_ok-read_header.ensures c.in-FieldSet.is (c.translate-in-FieldSet.ensures.again FieldSet (record { code = refl; word = refl }))
