@@ -19,8 +19,7 @@ fn main(rt: HostRuntime) -> anyhow::Result<ExitCode> {
             Ok(ExitCode::SUCCESS)
         }
         Err(refusal) => {
-            let line = refusal.line(rt.alloc())?;
-            rt.stdout().write_all(line.as_slice())?;
+            println!(rt; "{refusal}")?;
             Ok(ExitCode::FAILURE)
         }
     }

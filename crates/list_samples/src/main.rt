@@ -1,48 +1,30 @@
 // Packs many lists and turns them back, and prints a line for each.
 #![tactic(auto)]
 
-use items::Refusal;
 use packed::MOST_BYTES;
 use std::env;
-use std::fs::File;
-use std::io::{Read, Write};
+use std::fs;
 use translate::{ROOM_FOR_ANY_LOG, log_to_text, text_to_log};
 
 // How many bytes of a packed list are printed.
 const SHOWN: usize = 40;
 
-// Reads a file, up to so many bytes.
-fn read_file(rt: &HostRuntime, name: &str, most: usize) -> anyhow::Result<Vec<u8>> {
-    let mut bytes = Vec::new(rt.alloc());
-    File::open(rt, name)?
-        .take(most as u64)
-        .read_to_end(&mut bytes)?;
-    Ok(bytes)
-}
-
-// Prints the line of a refusal.
-fn print_refusal(rt: &HostRuntime, refusal: Refusal) -> anyhow::Result<()> {
-    let line = refusal.line(rt.alloc())?;
-    rt.stdout().write_all(line.as_slice())?;
-    Ok(())
-}
-
 // Prints how long the log of a list is and how long the list that it turns back into, and the first bytes of the log; or
 // the refusal.
-fn print_list(rt: &HostRuntime, name: &str, list: &[u8], memory: &mut [u8]) -> anyhow::Result<()> {
+fn print_list(rt: &HostRuntime, name: &str, memory: &mut [u8]) -> anyhow::Result<()> {
+    let list = fs::read(rt, name)?;
     let mut log = Vec::from_elem(rt.alloc(), 0u8, MOST_BYTES)?;
     print!(rt; "{name}: ")?;
-    match text_to_log(list, log.as_mut_slice()) {
-        Ok(length) => log.truncate(length),
-        Err(refusal) => return print_refusal(rt, refusal),
-    }
-    match log_to_text(log.as_slice(), memory) {
-        Ok(length) => {
-            let bytes = log.len();
-            print!(rt; "log of {bytes} bytes, list of {length} bytes:")?;
-        }
-        Err(refusal) => return print_refusal(rt, refusal),
-    }
+    let bytes = match text_to_log(list.as_slice(), log.as_mut_slice()) {
+        Ok(bytes) => bytes,
+        Err(refusal) => return Ok(println!(rt; "{refusal}")?),
+    };
+    log.truncate(bytes);
+    let length = match log_to_text(log.as_slice(), memory) {
+        Ok(length) => length,
+        Err(refusal) => return Ok(println!(rt; "{refusal}")?),
+    };
+    print!(rt; "log of {bytes} bytes, list of {length} bytes:")?;
     for byte in log.as_slice().iter().take(SHOWN) {
         print!(rt; " {byte}")?;
     }
@@ -53,8 +35,7 @@ fn print_list(rt: &HostRuntime, name: &str, list: &[u8], memory: &mut [u8]) -> a
 fn main(rt: HostRuntime) -> anyhow::Result<()> {
     let mut memory = Vec::from_elem(rt.alloc(), 0u8, ROOM_FOR_ANY_LOG)?;
     for name in env::args(&rt)?.skip(1) {
-        let list = read_file(&rt, name.as_str(), ROOM_FOR_ANY_LOG)?;
-        print_list(&rt, name.as_str(), list.as_slice(), memory.as_mut_slice())?;
+        print_list(&rt, name.as_str(), memory.as_mut_slice())?;
     }
     Ok(())
 }

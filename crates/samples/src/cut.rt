@@ -1,5 +1,6 @@
 // Logs cut short.
 use std::alloc::{AllocError, Global};
+use std::fmt;
 
 // What fills the byte in which a log is cut.
 #[derive(Clone, Copy)]
@@ -8,12 +9,12 @@ pub enum Filling {
     Ones,
 }
 
-impl Filling {
-    pub(crate) fn word(self) -> &'static str {
-        match self {
+impl fmt::Display for Filling {
+    fn fmt<W: fmt::Write>(&self, f: &mut fmt::Formatter<W>) -> fmt::Result {
+        f.write_str(match self {
             Filling::Zeros => "zeros",
             Filling::Ones => "ones",
-        }
+        })
     }
 }
 

@@ -1,0 +1,59 @@
+// A log in a file, and what is printed of it.
+use crate::cut::{Filling, cut};
+use std::fs;
+use std::io::Write;
+use translate::log_to_text;
+
+#[derive(Drop)]
+pub struct Sample<'a> {
+    name: &'a str,
+    log: Vec<u8>,
+}
+
+impl<'a> Sample<'a> {
+    // Reads a file.
+    pub(crate) fn read(rt: &HostRuntime, name: &'a str) -> anyhow::Result<Sample<'a>> {
+        let log = fs::read(rt, name)?;
+        Ok(Sample { name, log })
+    }
+
+    // Prints the list of the log, or its refusal.
+    pub(crate) fn print_whole(&self, rt: &HostRuntime, memory: &mut [u8]) -> anyhow::Result<()> {
+        let name = self.name;
+        match log_to_text(self.log.as_slice(), memory) {
+            Ok(length) => {
+                println!(rt; "{name}:")?;
+                rt.stdout().write_all(memory.get(..length).unwrap_or(&[]))?;
+            }
+            Err(refusal) => println!(rt; "{name}: {refusal}")?,
+        }
+        Ok(())
+    }
+
+    // Prints how long the list of the log is, cut at a bit, or its refusal.
+    fn print_cut(
+        &self,
+        rt: &HostRuntime,
+        bits: usize,
+        filling: Filling,
+        memory: &mut [u8],
+    ) -> anyhow::Result<()> {
+        let front = cut(rt.alloc(), self.log.as_slice(), bits, filling)?;
+        let name = self.name;
+        print!(rt; "{name} bit {bits} {filling}: ")?;
+        match log_to_text(front.as_slice(), memory) {
+            Ok(length) => println!(rt; "list of {length} bytes")?,
+            Err(refusal) => println!(rt; "{refusal}")?,
+        }
+        Ok(())
+    }
+
+    // Cuts the log at every bit, and fills the byte with zeros and then with ones.
+    pub(crate) fn print_cuts(&self, rt: &HostRuntime, memory: &mut [u8]) -> anyhow::Result<()> {
+        for bits in 0..self.log.len().saturating_mul(8) {
+            self.print_cut(rt, bits, Filling::Zeros, memory)?;
+            self.print_cut(rt, bits, Filling::Ones, memory)?;
+        }
+        Ok(())
+    }
+}
