@@ -35,7 +35,7 @@ impl fmt::Display for Summary {
 }
 
 impl Summary {
-    // The line that a program prints for a summary.
+    // The line that a program prints for a summary, as the bytes that the contract tells.
     pub fn line(&self, heap: Global) -> Result<Vec<u8>, AllocError>
         ensures { IfOk result (λ v. v.items ≡ summary_line self.now) }
     {

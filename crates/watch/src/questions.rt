@@ -42,7 +42,7 @@ impl<I: Kind + Copy, B: Board> Watch<'_, I, B> {
         Ok(self.marks.holds_own(bay, item, mode))
     }
 
-    // Whether a bay holds an item and mode as inherited.
+    // Whether a bay holds an item and mode as inherited; a mark's two sets of holders are asked apart.
     pub fn holds_inherited(&self, bay: u8, item: &I, mode: Mode) -> Result<bool, Refusal>
         ensures { result ≡ inherited_told (state_of B.Board.linked I.Kind.fields self.now) bay (I.Kind.fields item.now) mode }
     {
