@@ -1,8 +1,10 @@
 // Lines of text written into lent memory: a word, then numbers in decimal, parted by single spaces.
-ghost use Rattle.std.specs.Prelude.{◌≡◌, ◌+◌, ◌≤◌, ◌∷◌, length, IfOk, decimal};
+ghost use Rattle.std.specs.Prelude.{◌≡◌, ℕ, ◌+◌, ◌≤◌, List, [], ◌∷◌, ◌++◌, length, Some, IfOk, decimal};
 ghost use Rattle.items.specs.Lines.{spaced, ending, line, pasted, fitted, pasted_if};
 
 use itoa::Buffer;
+use std::alloc::{AllocError, Global};
+use std::fmt::Display;
 
 // How many digits a number has.
 fn digits(n: u64) -> usize
@@ -92,4 +94,11 @@ pub fn write_line(out: &mut [u8], at: usize, word: &[u8], first: u64, rest: &[u6
     let place = put_spaced(out, at + word.len(), first);
     put_ending(out, place, rest);
     Some(end)
+}
+
+// Makes the line of what is displayed, in memory of its own.
+pub fn line_of<T: Display>(heap: Global, told: &T) -> Result<Vec<u8>, AllocError>
+    ensures { (text : List ℕ) → T.output told.now ≡ Some text → IfOk result (λ v. v.items ≡ text ++ 10 ∷ []) }
+{
+    Ok(format!(in heap; "{told}\n")?.into_bytes())
 }

@@ -3,7 +3,7 @@ ghost use Rattle.std.specs.Prelude.{◌≡◌, ◌++◌, length, IfOk, decimal, 
 ghost use Rattle.items.specs.Refusals.{number_of, word_of, refused};
 ghost use Rattle.items.specs.Lines.{fitted, pasted_if, refusal_text, refusal_line};
 
-use crate::line::write_line;
+use crate::line::{line_of, write_line};
 use std::alloc::{AllocError, Global};
 use std::fmt;
 
@@ -146,6 +146,6 @@ impl Refusal {
     pub fn line(&self, heap: Global) -> Result<Vec<u8>, AllocError>
         ensures { IfOk result (λ v. v.items ≡ refusal_line self.now) }
     {
-        Ok(format!(in heap; "{self}\n")?.into_bytes())
+        line_of(heap, self)
     }
 }

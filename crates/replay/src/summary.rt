@@ -2,6 +2,7 @@
 ghost use Rattle.std.specs.Prelude.{◌≡◌, IfOk, Some};
 ghost use Rattle.replay.specs.SummaryLines.{summary_text, summary_line};
 
+use items::line_of;
 use std::alloc::{AllocError, Global};
 use std::fmt;
 
@@ -35,10 +36,10 @@ impl fmt::Display for Summary {
 }
 
 impl Summary {
-    // The line that a program prints for a summary, as the bytes that the contract tells.
+    // The line that a program prints for a summary.
     pub fn line(&self, heap: Global) -> Result<Vec<u8>, AllocError>
         ensures { IfOk result (λ v. v.items ≡ summary_line self.now) }
     {
-        Ok(format!(in heap; "{self}\n")?.into_bytes())
+        line_of(heap, self)
     }
 }

@@ -1,7 +1,7 @@
-use Rattle.std.proofs.Common.{◌≡◌, ℕ, List, [], ◌∷◌, ◌++◌, Some, None, Option, flat_map, refl, ap, ◌∙◌, append-nil}
+use Rattle.std.proofs.Common.{◌≡◌, ℕ, List, [], ◌∷◌, ◌++◌, Some, None, Option, flat_map, IfOk, refl, ap, ◌∙◌, subst, append-nil}
 use Rattle.std.proofs.lemmas.List.{append_assoc}
 use Rattle.items.specs.Lines.{spaced, line}
-use Rattle.replay.specs.SummaryLines.{crossing_numbers}
+use Rattle.replay.specs.SummaryLines.{crossing_numbers, summary_text}
 use Rattle.replay.proofs.summary.Summary.line.Goals as goal
 
 joined : (word a b c d rest end : List ℕ) → (word ++ a ++ b ++ c ++ d ++ rest) ++ end ≡ word ++ (a ++ (b ++ (c ++ (d ++ (rest ++ end)))))
@@ -16,4 +16,4 @@ ended word a b c d (Some bay) =
 pub returns : goal.returns
 returns c =
     let s = c.args.self.now in
-    ap (λ v. v.items) c.into_bytes.ensures.value ∙ c.in_ok-format.ensures.ok ∙ ended _ s.entries s.commits s.aborts s.open_bays s.crossing
+    subst (λ text. IfOk c.line_of.result (λ v. v.items ≡ text)) (ended _ s.entries s.commits s.aborts s.open_bays s.crossing) (c.line_of.ensures (summary_text s) refl)
