@@ -34,6 +34,7 @@ pub(crate) fn number_value(digits: &[u8]) -> u64
     ensures { result ≡ read_on 0 digits.now }
 {
     let mut value = 0;
+    // By a loop, which knows how many digits came: the closure of a fold does not know that its value is still small.
     for b in digits {
         value = 10 * value + u64::from(*b - b'0');
     }

@@ -19,15 +19,11 @@ fn pack<K: TextKind + Copy>(text: &[u8], out: &mut [u8]) -> Result<usize, Refusa
 {
     let mut reader = ListReader::<K>::open(text)?;
     let blank = Blank {};
-    let mut log = match blank.header::<K>(out, reader.bays()) {
-        Ok(started) => started,
-        Err(back) => return Err(back.refusal),
-    };
+    let mut log = blank
+        .header::<K>(out, reader.bays())
+        .map_err(|back| back.refusal)?;
     while let Some(entry) = reader.next(text)? {
-        log = match log.entry(out, &entry) {
-            Ok(started) => started,
-            Err(back) => return Err(back.refusal),
-        };
+        log = log.entry(out, &entry).map_err(|back| back.refusal)?;
     }
     Ok(log.finish().len())
 }
@@ -38,6 +34,7 @@ fn pack_whole<K: TextKind + Copy>(text: &[u8], out: &mut [u8]) -> Result<usize, 
     ensures memory { out.new ≡ translated_memory out.old (meant bytes_of (packed_bits K.PackedKind.layout K.TextKind.wording text.now (length out.old))) }
     ensures again { (name : KindName) → Known name K.PackedKind.layout K.TextKind.wording → ListsAgain name K.PackedKind.layout K.TextKind.wording text.now (meant bytes_of (packed_bits K.PackedKind.layout K.TextKind.wording text.now (length out.old))) }
 {
+    // The trial has fixed memory, since nothing is taken from the heap here.
     let mut trial = [0u8; MOST_BYTES];
     let room = out.len().min(MOST_BYTES);
     pack::<K>(text, &mut trial[0..room])?;
