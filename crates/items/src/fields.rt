@@ -4,7 +4,8 @@ ghost use Rattle.std.specs.Option.{option_map};
 
 use std::array;
 
-// Up to four numbers: the first `count` of the values.
+// Up to four numbers: the first `count` of the values. An array with a count is copied as an item is; a vector of fixed
+// capacity is not.
 #[derive(Clone, Copy)]
 pub struct Fields {
     values: [u64; 4],

@@ -13,6 +13,7 @@ pub trait Kind: Sized {
 
     ghost overlapping: { List ℕ → List ℕ → Bool };
 
+    // Asked of the kind, as overlap is: whoever is generic over kinds has no other equality.
     fn same(&self, other: &Self) -> bool
         ensures { result ≡ same_fields (fields self.now) (fields other.now) };
 
@@ -53,6 +54,7 @@ pub trait PackedKind: Kind {
     // An item of the kind, whichever, to fill memory with.
     fn filler() -> Self;
 
+    // Each kind names its own fields, in their order.
     fn to_fields(&self) -> Fields
         ensures { listed result ≡ Self.Kind.fields self.now };
 
@@ -90,7 +92,7 @@ pub trait TextKind: PackedKind {
     fn shown_count() -> usize
         ensures { result ≡ wording.count };
 
-    // The numbers that stand for the item in a line.
+    // The numbers that stand for the item in a line. How an item stands there is each kind's own, by its fields or otherwise.
     fn show(&self) -> Fields
         ensures { listed result ≡ wording.shown (Self.Kind.fields self.now) };
 

@@ -81,7 +81,7 @@ impl Layer {
         }
     }
 
-    // The word, behind the one that begins a refusal's line.
+    // The word, behind the one that begins a refusal's line: both as one text, since what writes into lent memory takes one.
     fn heading(self) -> &'static str
         ensures { result.now ≡ refused ++ word_of self }
     {

@@ -49,6 +49,7 @@ impl<I> From<Unopened<'_, I>> for Refusal {
     }
 }
 
+// Each call hands the slice to one function, with the access or the change that it is about.
 impl<'a, I: Kind + Copy> MarkList<'a, I> {
     // Opens a list of 1 to 4,096 marks, all of them vacant from then on.
     pub fn open(marks: &'a mut [Mark<I>]) -> Result<MarkList<'a, I>, Unopened<'a, I>>

@@ -1,6 +1,8 @@
-// The edges of the items' ranges, and the whole conflict table.
-use items::{Layer, Mode, Refusal};
+// The edges of the items' ranges, the whole conflict table, and what asks for memory.
+use items::{Layer, Mode, Reason, Refusal, line_of};
 use kinds::{Article, FieldSet, Span};
+use packed::{LogError, Reader, read_all};
+use std::test::Fail;
 
 // Whether the item's own layer refuses, for the reason that is printed as 7.
 fn is_refused<T: Drop>(made: Result<T, Refusal>) -> bool {
@@ -54,4 +56,31 @@ fn conflict_table(rt: HostRuntime) {
     assert_eq!(rt; row_of(Mode::Set), [true, true, true, true]);
     assert_eq!(rt; row_of(Mode::Add), [true, true, false, true]);
     assert_eq!(rt; row_of(Mode::Raise), [true, true, true, false]);
+}
+
+// The bays of a log and the bays of its entries, where memory did not run out.
+#[test]
+fn log_read_to_its_end(rt: HostRuntime) -> Result<(), Fail> {
+    let bytes = [0x12, 0x00, 0x20, 0xA0, 0x00, 0x15, 0x00];
+    match read_all::<Article, Reader<Article>>(rt.alloc(), &bytes) {
+        Ok(log) => {
+            assert_eq!(rt; log.bays, 1);
+            assert_eq!(rt; log.entries.len(), 3);
+            Ok(())
+        }
+        Err(LogError::Refused(_)) => Err(Fail::new("the log was refused")),
+        Err(LogError::OutOfMemory) => Err(Fail::new("memory ran out")),
+    }
+}
+
+#[test]
+fn line_of_a_refusal(rt: HostRuntime) -> Result<(), Fail> {
+    let refusal = Layer::Log.refusal(Reason::EntryCut, 3);
+    match line_of(rt.alloc(), &refusal) {
+        Ok(line) => {
+            assert!(rt; line.as_slice() == b"REFUSED log 13 3\n".as_slice());
+            Ok(())
+        }
+        Err(_) => Err(Fail::new("memory ran out")),
+    }
 }

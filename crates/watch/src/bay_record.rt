@@ -35,7 +35,7 @@ impl BayRecord {
         self.commits = self.commits.saturating_add(1);
     }
 
-    // The transaction in the bay is aborted.
+    // The transaction in the bay is aborted. It counts by itself, as a commit does.
     pub(crate) fn abort(&mut self)
         ensures { self.new ≡ record_after Aborts self.old }
     {

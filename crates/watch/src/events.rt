@@ -1,5 +1,5 @@
 // The four events, and any of them as one call. Each is the step of its event, and extends the account of every history
-// that led to the watch as it is.
+// that led to the watch as it is. Each event is a call by its own name, and answers no more than that event can.
 ghost use Rattle.std.specs.Prelude.{◌≡◌, ℕ, List};
 ghost use Rattle.items.specs.Entries.{event_meant};
 ghost use Rattle.items.specs.Modes.{conflicting};
