@@ -1,4 +1,4 @@
-use Rattle.std.proofs.Common.{◌≡◌, Bool, true, false, cond, Ok, Err, Result, refl, arith, rules}
+use Rattle.std.proofs.Common.{◌≡◌, Bool, true, false, cond, Ok, Err, Result, refl, arith}
 use Rattle.items.specs.Modes.{conflicting}
 use Rattle.marks.specs.Marks.{meant_marks}
 use Rattle.watch.proofs.RunFacts.{opening_account}
