@@ -16,7 +16,7 @@ pub(crate) struct Bay {
     ghost below: { number < 32 },
 }
 
-// Bay 0 stands in the places of a list that are not used yet.
+// Bay 0 stands in the places of a list that are not used yet. Written out, since no default is derived over a ghost field.
 impl Default for Bay {
     ghost is_default = { λ bay. bay.number ≡ 0 };
 

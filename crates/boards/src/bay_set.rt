@@ -59,6 +59,7 @@ pub(crate) fn bays_that<F: Fn(Bay) -> bool>(test: F) -> u32
     ensures { (bay : Bay) → F.post test bay (bit result bay.number) }
 {
     let mut bays = 0;
+    // By a for: in a chain the test would be a closure within a closure.
     for number in 0..BAYS as u8 {
         if test(Bay { number }) {
             bays = with_bay(bays, number);

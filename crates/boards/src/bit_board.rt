@@ -10,6 +10,7 @@ use crate::board::Board;
 use crate::pair::Pair;
 use items::Refusal;
 
+// The words are an array by value, which is the form that this project gives to a bit matrix.
 #[derive(Drop)]
 pub struct BitBoard {
     rows: [u32; BAYS],

@@ -21,7 +21,7 @@ pub trait Board: Sized {
         ensures answer { result ≡ if_bay bay tt }
         ensures after { SameLinks (linked self.new) (after_drop (linked self.old) bay) };
 
-    // Whether the first bay links to the second.
+    // Whether the first bay links to the second. Each question says itself that it leaves the set as it was.
     fn has(&self, from: u8, to: u8) -> Result<bool, Refusal>
         ensures answer { result ≡ if_bays from to (linked self.now from to) }
         ensures after { SameLinks (linked self.exit.now) (linked self.entry.now) };

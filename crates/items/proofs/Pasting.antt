@@ -77,3 +77,10 @@ pub pasted_again : {A : Type 0} (d : List A) (at : ℕ) (a b : List A) → lengt
 pasted_again d zero a b h = over_again d a b h
 pasted_again [] (suc at) a b h = refl
 pasted_again (x ∷ d) (suc at) a b h = ap (λ l. x ∷ l) (pasted_again d at a b h)
+
+-- as many written over memory as it has
+pub over_same : {A : Type 0} (d s : List A) → length d ≡ length s → over d s ≡ s
+over_same [] [] h = refl
+over_same [] (x ∷ s) h = absurd (omega arith)
+over_same (m ∷ d) [] h = absurd (omega arith)
+over_same (m ∷ d) (x ∷ s) h = ap (λ l. x ∷ l) (over_same d s (omega arith))

@@ -13,6 +13,6 @@ pub use entry::{Entry, Event};
 pub use fields::Fields;
 pub use kind::{Kind, PackedKind, TextKind};
 pub use kind_name::KindName;
-pub use line::{line_end, line_of, write_line};
+pub use line::{displayed_line, line_end, line_of, write_line};
 pub use mode::{Mode, conflict_table_is_even};
 pub use refusal::{Layer, Reason, Refusal};

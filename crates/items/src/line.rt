@@ -96,8 +96,19 @@ pub fn write_line(out: &mut [u8], at: usize, word: &[u8], first: u64, rest: &[u6
     Some(end)
 }
 
+// Makes a line in memory of its own.
+pub fn line_of(heap: Global, word: &[u8], first: u64, rest: &[u64]) -> Result<Vec<u8>, AllocError>
+    ensures { IfOk result (λ v. v.items ≡ line word.now (first ∷ rest.now)) }
+{
+    // No memory has room for a line that is longer than a number says.
+    let length = line_end(usize::MAX, 0, word, first, rest).unwrap_or(usize::MAX);
+    let mut made = Vec::from_elem(heap, 0u8, length)?;
+    let _ = write_line(made.as_mut_slice(), 0, word, first, rest);
+    Ok(made)
+}
+
 // Makes the line of what is displayed, in memory of its own.
-pub fn line_of<T: Display>(heap: Global, told: &T) -> Result<Vec<u8>, AllocError>
+pub fn displayed_line<T: Display>(heap: Global, told: &T) -> Result<Vec<u8>, AllocError>
     ensures { (text : List ℕ) → T.output told.now ≡ Some text → IfOk result (λ v. v.items ≡ text ++ 10 ∷ []) }
 {
     Ok(format!(in heap; "{told}\n")?.into_bytes())

@@ -10,7 +10,8 @@ pub enum Mode {
     Raise,
 }
 
-// Rows and columns in the order look, set, add, raise; true where the two modes conflict.
+// Rows and columns in the order look, set, add, raise; true where the two modes conflict. One constant table is the form
+// that this project gives to the rule.
 const CONFLICTS: [[bool; 4]; 4] = [
     [false, true, true, true],
     [true, true, true, true],

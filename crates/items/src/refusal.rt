@@ -3,7 +3,7 @@ ghost use Rattle.std.specs.Prelude.{◌≡◌, ◌++◌, length, IfOk, decimal, 
 ghost use Rattle.items.specs.Refusals.{number_of, word_of, refused};
 ghost use Rattle.items.specs.Lines.{fitted, pasted_if, refusal_text, refusal_line};
 
-use crate::line::{line_of, write_line};
+use crate::line::{displayed_line, write_line};
 use std::alloc::{AllocError, Global};
 use std::fmt;
 
@@ -139,13 +139,13 @@ impl Refusal {
         ensures memory { out.new ≡ pasted_if result out.old 0 (refusal_line self.now) }
     {
         let word = self.layer.heading().as_bytes();
-        write_line(out, 0, word, self.reason.number() as u64, &[self.entry])
+        write_line(out, 0, word, u64::from(self.reason.number()), &[self.entry])
     }
 
     // The line that a program prints for a refusal.
     pub fn line(&self, heap: Global) -> Result<Vec<u8>, AllocError>
         ensures { IfOk result (λ v. v.items ≡ refusal_line self.now) }
     {
-        line_of(heap, self)
+        displayed_line(heap, self)
     }
 }

@@ -77,7 +77,7 @@ impl PackedKind for Article {
     }
 
     fn to_fields(&self) -> Fields {
-        Fields::of(&[self.number as u64])
+        Fields::of(&[u64::from(self.number)])
     }
 
     fn from_fields(fields: &[u64]) -> Result<Article, Refusal> {
@@ -88,11 +88,11 @@ impl PackedKind for Article {
     }
 
     fn to_bits(&self) -> u32 {
-        self.number as u32
+        u32::from(self.number)
     }
 
     fn from_bits(bits: u32) -> Result<Article, Refusal> {
-        Article::new(bits as u64)
+        Article::new(u64::from(bits))
     }
 }
 

@@ -91,7 +91,7 @@ impl PackedKind for FieldSet {
     }
 
     fn to_fields(&self) -> Fields {
-        Fields::of(&[self.row as u64, self.set as u64])
+        Fields::of(&[u64::from(self.row), u64::from(self.set)])
     }
 
     fn from_fields(fields: &[u64]) -> Result<FieldSet, Refusal> {
@@ -106,7 +106,7 @@ impl PackedKind for FieldSet {
     }
 
     fn from_bits(bits: u32) -> Result<FieldSet, Refusal> {
-        FieldSet::new((bits / 64) as u64, (bits % 64) as u64)
+        FieldSet::new(u64::from(bits / 64), u64::from(bits % 64))
     }
 }
 

@@ -91,7 +91,7 @@ impl PackedKind for Span {
     }
 
     fn to_fields(&self) -> Fields {
-        Fields::of(&[self.start as u64, self.length as u64])
+        Fields::of(&[u64::from(self.start), u64::from(self.length)])
     }
 
     fn from_fields(fields: &[u64]) -> Result<Span, Refusal> {
@@ -106,7 +106,7 @@ impl PackedKind for Span {
     }
 
     fn from_bits(bits: u32) -> Result<Span, Refusal> {
-        Span::new((bits / 64) as u64, (bits % 64 + 1) as u64)
+        Span::new(u64::from(bits / 64), u64::from(bits % 64 + 1))
     }
 }
 

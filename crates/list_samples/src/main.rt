@@ -3,16 +3,20 @@
 
 use packed::MOST_BYTES;
 use std::env;
-use std::fs;
+use std::fs::File;
+use std::io::Read;
 use translate::{ROOM_FOR_ANY_LOG, log_to_text, text_to_log};
 
 // How many bytes of a packed list are printed.
 const SHOWN: usize = 40;
 
-// Prints how long the log of a list is and how long the list that it turns back into, and the first bytes of the log; or
+// Reads a list, up to as many bytes as any log's has, and prints how long the log of a list is and how long the list that it turns back into, and the first bytes of the log; or
 // the refusal.
 fn print_list(rt: &HostRuntime, name: &str, memory: &mut [u8]) -> anyhow::Result<()> {
-    let list = fs::read(rt, name)?;
+    let mut list = Vec::new(rt.alloc());
+    File::open(rt, name)?
+        .take(ROOM_FOR_ANY_LOG as u64)
+        .read_to_end(&mut list)?;
     let mut log = Vec::from_elem(rt.alloc(), 0u8, MOST_BYTES)?;
     print!(rt; "{name}: ")?;
     let bytes = match text_to_log(list.as_slice(), log.as_mut_slice()) {

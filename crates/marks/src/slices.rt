@@ -24,6 +24,7 @@ pub(crate) enum Place {
 pub(crate) fn find_place<I: Kind + Copy>(marks: &[Mark<I>], access: &Access<I>) -> Option<Place>
     ensures { Found (meant_marks I.Kind.fields marks.now) (I.Kind.fields access.now.item) access.now.mode result }
 {
+    // A loop that yields by break, the form that this project gives to the search.
     'search: {
         let mut spare: Option<Place> = None;
         for (i, mark) in marks.iter().enumerate() {

@@ -2,7 +2,7 @@
 ghost use Rattle.std.specs.Prelude.{◌≡◌, IfOk, Some};
 ghost use Rattle.replay.specs.SummaryLines.{summary_text, summary_line};
 
-use items::line_of;
+use items::displayed_line;
 use std::alloc::{AllocError, Global};
 use std::fmt;
 
@@ -40,6 +40,6 @@ impl Summary {
     pub fn line(&self, heap: Global) -> Result<Vec<u8>, AllocError>
         ensures { IfOk result (λ v. v.items ≡ summary_line self.now) }
     {
-        line_of(heap, self)
+        displayed_line(heap, self)
     }
 }

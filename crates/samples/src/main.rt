@@ -13,12 +13,19 @@ use translate::ROOM_FOR_ANY_LOG;
 
 fn main(rt: HostRuntime) -> anyhow::Result<()> {
     let mut memory = Vec::from_elem(rt.alloc(), 0u8, ROOM_FOR_ANY_LOG)?;
-    let mut names = env::args(&rt)?.skip(1);
-    for name in names.by_ref().take_while(|name| name.as_str() != "cuts") {
-        Sample::read(&rt, name.as_str())?.print_whole(&rt, memory.as_mut_slice())?;
-    }
-    for name in names {
-        Sample::read(&rt, name.as_str())?.print_cuts(&rt, memory.as_mut_slice())?;
+    // A flag, since the word stands among the names.
+    let mut cutting = false;
+    for name in env::args(&rt)?.skip(1) {
+        if name.as_str() == "cuts" {
+            cutting = true;
+            continue;
+        }
+        let sample = Sample::read(&rt, name.as_str())?;
+        if cutting {
+            sample.print_cuts(&rt, memory.as_mut_slice())?;
+        } else {
+            sample.print_whole(&rt, memory.as_mut_slice())?;
+        }
     }
     Ok(())
 }

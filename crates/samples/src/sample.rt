@@ -1,7 +1,8 @@
 // A log in a file, and what is printed of it.
 use crate::cut::{Filling, cut};
-use std::fs;
-use std::io::Write;
+use packed::MOST_BYTES;
+use std::fs::File;
+use std::io::{Read, Write};
 use translate::log_to_text;
 
 #[derive(Drop)]
@@ -11,9 +12,12 @@ pub struct Sample<'a> {
 }
 
 impl<'a> Sample<'a> {
-    // Reads a file.
+    // Reads a file, up to one byte more than a log may have.
     pub(crate) fn read(rt: &HostRuntime, name: &'a str) -> anyhow::Result<Sample<'a>> {
-        let log = fs::read(rt, name)?;
+        let mut log = Vec::new(rt.alloc());
+        File::open(rt, name)?
+            .take(MOST_BYTES as u64 + 1)
+            .read_to_end(&mut log)?;
         Ok(Sample { name, log })
     }
 

@@ -1,15 +1,12 @@
 // The edges of the items' ranges, the whole conflict table, and what asks for memory.
-use items::{Layer, Mode, Reason, Refusal, line_of};
+use items::{Layer, Mode, Reason, Refusal, displayed_line, line_of};
 use kinds::{Article, FieldSet, Span};
 use packed::{LogError, Reader, read_all};
 use std::test::Fail;
 
 // Whether the item's own layer refuses, for the reason that is printed as 7.
 fn is_refused<T: Drop>(made: Result<T, Refusal>) -> bool {
-    match made {
-        Ok(_) => false,
-        Err(refusal) => refusal.reason.number() == 7 && matches!(refusal.layer, Layer::Item),
-    }
+    made.is_err_and(|refusal| refusal.reason.number() == 7 && refusal.layer == Layer::Item)
 }
 
 #[test]
@@ -58,7 +55,7 @@ fn conflict_table(rt: HostRuntime) {
     assert_eq!(rt; row_of(Mode::Raise), [true, true, true, false]);
 }
 
-// The bays of a log and the bays of its entries, where memory did not run out.
+// A log of three entries is read whole, and memory does not run out.
 #[test]
 fn log_read_to_its_end(rt: HostRuntime) -> Result<(), Fail> {
     let bytes = [0x12, 0x00, 0x20, 0xA0, 0x00, 0x15, 0x00];
@@ -74,13 +71,15 @@ fn log_read_to_its_end(rt: HostRuntime) -> Result<(), Fail> {
 }
 
 #[test]
-fn line_of_a_refusal(rt: HostRuntime) -> Result<(), Fail> {
+fn lines_in_memory_of_their_own(rt: HostRuntime) -> Result<(), Fail> {
     let refusal = Layer::Log.refusal(Reason::EntryCut, 3);
-    match line_of(rt.alloc(), &refusal) {
-        Ok(line) => {
-            assert!(rt; line.as_slice() == b"REFUSED log 13 3\n".as_slice());
-            Ok(())
-        }
-        Err(_) => Err(Fail::new("memory ran out")),
-    }
+    let (Ok(displayed), Ok(told)) = (
+        displayed_line(rt.alloc(), &refusal),
+        line_of(rt.alloc(), b"REFUSED log", 13, &[3]),
+    ) else {
+        return Err(Fail::new("memory ran out"));
+    };
+    assert!(rt; displayed.as_slice() == b"REFUSED log 13 3\n".as_slice());
+    assert!(rt; told.as_slice() == displayed.as_slice());
+    Ok(())
 }

@@ -50,12 +50,13 @@ translated_behind layout kind bytes room (Ok h) =
 abbrev pub translated : Layout → Wording → List ℕ → ℕ → Result (List ℕ) Refusal
 translated layout kind bytes room = translated_behind layout kind bytes room (header_of (one_kind layout.code) bytes)
 
--- the packed form of each kind, and its form in a list
+-- the packed form of each kind
 abbrev pub layout_of : KindName → Layout
 layout_of Article = article_layout
 layout_of Span = span_layout
 layout_of FieldSet = field_set_layout
 
+-- the form of each kind in a list
 abbrev pub wording_of : KindName → Wording
 wording_of Article = article_wording
 wording_of Span = span_wording

@@ -48,6 +48,7 @@ pub fn text_to_log(text: &[u8], out: &mut [u8]) -> Result<usize, Refusal>
     ensures memory { out.new ≡ translated_memory out.old (log_of_text text.now (length out.old)) }
     ensures comes_back { ListComesBack text.now (log_of_text text.now (length out.old)) }
 {
+    // An arm for each kind: a trait to carry the function over the kinds would be longer than the arms.
     match list_kind(text)? {
         KindName::Article => pack_whole::<Article>(text, out),
         KindName::Span => pack_whole::<Span>(text, out),

@@ -44,6 +44,7 @@ pub fn log_to_text(bytes: &[u8], out: &mut [u8]) -> Result<usize, Refusal>
     ensures memory { out.new ≡ translated_memory out.old (text_of bytes.now (length out.old)) }
     ensures comes_back { LogComesBack bytes.now (text_of bytes.now (length out.old)) }
 {
+    // An arm for each kind: a trait to carry the function over the kinds would be longer than the arms.
     match read_header(bytes)?.kind {
         KindName::Article => translate::<Article>(bytes, out),
         KindName::Span => translate::<Span>(bytes, out),

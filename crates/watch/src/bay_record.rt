@@ -35,7 +35,8 @@ impl BayRecord {
         self.commits = self.commits.saturating_add(1);
     }
 
-    // The transaction in the bay is aborted. It counts by itself, as a commit does.
+    // The transaction in the bay is aborted. A commit counts in the other
+    // number: one function for both would take the number to count in, for two lines.
     pub(crate) fn abort(&mut self)
         ensures { self.new ≡ record_after Aborts self.old }
     {

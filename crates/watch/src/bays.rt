@@ -9,7 +9,8 @@ use crate::bay_record::BayRecord;
 // How many bays a cradle may have.
 pub(crate) const MOST_BAYS: usize = 32;
 
-// The first `count` records are those of the watch's bays. The memory is fixed, with a record for as many as there may be.
+// The first `count` records are those of the watch's bays. A plain struct with an
+// array of all records is the form that this project gives to the table.
 #[derive(Drop)]
 pub struct Bays {
     records: [BayRecord; MOST_BAYS],

@@ -10,6 +10,7 @@ pub(crate) fn link_to<B: Board>(board: &mut B, froms: u32, to: u8)
     requires { to < 32 }
     ensures { SameLinks (B.Board.linked board.new) (with_links_to to froms (B.Board.linked board.old)) }
 {
+    // A link at a time: each turn changes the board.
     for from in 0..32u8 {
         if has_bay(froms, from) {
             board.put(from, to).unwrap();
@@ -21,6 +22,7 @@ pub(crate) fn link_to<B: Board>(board: &mut B, froms: u32, to: u8)
 pub(crate) fn link_between<B: Board>(board: &mut B, froms: u32, tos: u32)
     ensures { SameLinks (B.Board.linked board.new) (with_links_between froms tos (B.Board.linked board.old)) }
 {
+    // A link at a time: each turn changes the board.
     for to in 0..32u8 {
         if has_bay(tos, to) {
             link_to(board, froms, to);

@@ -10,4 +10,4 @@ joined a b c end = simp append_assoc refl
 pub returns : goal.returns
 returns c =
     let r = c.args.self.now in
-    subst (λ text. IfOk c.line_of.result (λ v. v.items ≡ text)) (joined (refused ++ word_of r.layer) (spaced (number_of r.reason)) (spaced r.entry) (10 ∷ [])) (c.line_of.ensures (refusal_text r) refl)
+    subst (λ text. IfOk c.displayed_line.result (λ v. v.items ≡ text)) (joined (refused ++ word_of r.layer) (spaced (number_of r.reason)) (spaced r.entry) (10 ∷ [])) (c.displayed_line.ensures (refusal_text r) refl)

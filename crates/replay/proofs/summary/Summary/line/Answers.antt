@@ -16,4 +16,4 @@ ended word a b c d (Some bay) =
 pub returns : goal.returns
 returns c =
     let s = c.args.self.now in
-    subst (λ text. IfOk c.line_of.result (λ v. v.items ≡ text)) (ended _ s.entries s.commits s.aborts s.open_bays s.crossing) (c.line_of.ensures (summary_text s) refl)
+    subst (λ text. IfOk c.displayed_line.result (λ v. v.items ≡ text)) (ended _ s.entries s.commits s.aborts s.open_bays s.crossing) (c.displayed_line.ensures (summary_text s) refl)
