@@ -19,7 +19,8 @@ fn main(rt: HostRuntime) -> anyhow::Result<ExitCode> {
             Ok(ExitCode::SUCCESS)
         }
         Err(refusal) => {
-            println!(rt; "{refusal}")?;
+            let line = refusal.line(rt.alloc())?;
+            rt.stdout().write_all(line.as_slice())?;
             Ok(ExitCode::FAILURE)
         }
     }

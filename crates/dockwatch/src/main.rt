@@ -3,7 +3,7 @@
 
 use packed::MOST_BYTES;
 use replay::watch_log;
-use std::io::Read;
+use std::io::{Read, Write};
 use std::process::ExitCode;
 
 fn main(rt: HostRuntime) -> anyhow::Result<ExitCode> {
@@ -13,11 +13,13 @@ fn main(rt: HostRuntime) -> anyhow::Result<ExitCode> {
         .read_to_end(&mut log)?;
     match watch_log(log.as_slice()) {
         Ok(summary) => {
-            println!(rt; "{summary}")?;
+            let line = summary.line(rt.alloc())?;
+            rt.stdout().write_all(line.as_slice())?;
             Ok(ExitCode::SUCCESS)
         }
         Err(refusal) => {
-            println!(rt; "{refusal}")?;
+            let line = refusal.line(rt.alloc())?;
+            rt.stdout().write_all(line.as_slice())?;
             Ok(ExitCode::FAILURE)
         }
     }
