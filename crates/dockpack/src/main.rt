@@ -16,6 +16,7 @@ fn main(rt: HostRuntime) -> anyhow::Result<ExitCode> {
             rt.stdout().write_all(log.as_slice())?;
             Ok(ExitCode::SUCCESS)
         }
+        // Each program ends so by itself: a function for it would only pass the status on.
         Err(refusal) => {
             let line = refusal.line(rt.alloc())?;
             rt.stdout().write_all(line.as_slice())?;

@@ -12,7 +12,7 @@ pub struct Sample<'a> {
 }
 
 impl<'a> Sample<'a> {
-    // Reads a file, up to one byte more than a log may have.
+    // Reads a file, up to one byte more than a log may have: a bound of this program's own.
     pub(crate) fn read(rt: &HostRuntime, name: &'a str) -> anyhow::Result<Sample<'a>> {
         let mut log = Vec::new(rt.alloc());
         File::open(rt, name)?

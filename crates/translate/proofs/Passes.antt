@@ -1,6 +1,8 @@
 -- A pass over a log that writes its list: what each step keeps, and what the end says. Assumes nothing.
-use Rattle.std.proofs.Common.{◌≡◌, ℕ, ◌+◌, ◌≤◌, List, length, Ok, Err, Result, sym, refl, ap, ◌∙◌, add-zero, arith, length-append}
+use Rattle.std.proofs.Common.{◌≡◌, ℕ, ◌+◌, ◌≤◌, List, length, Some, None, Ok, Err, Option, Result, sym, refl, ap, ◌∙◌, add-zero, arith, length-append}
 use Rattle.items.specs.Kinds.{Layout, Wording, meant}
+use Rattle.items.specs.Lines.{fitted}
+use Rattle.items.proofs.Fitting.{fits_room}
 use Rattle.items.specs.declared.entry.Entry.{Entry}
 use Rattle.items.specs.declared.refusal.Refusal.{Refusal}
 use Rattle.packed.specs.declared.reading.Reading.{Reading}
@@ -12,7 +14,7 @@ use Rattle.packed.specs.Readers.{listing_at}
 use Rattle.packed.specs.declared.writing.Writing.{Writing}
 use Rattle.text.specs.Lists.{first_line, entry_line}
 use Rattle.text.proofs.MemoryTrips.{begun_is, grown_is}
-use Rattle.text.specs.Writing.{begins, adds, answered}
+use Rattle.text.specs.Writing.{headed, begins, adds, answered}
 use Rattle.translate.specs.Translation.{lines_of, list_text, next, writes, plans, translated_behind, translated}
 
 pub answered_ok : (x : Result Writing Refusal) → Ok tt ≡ answered x → (w : Writing) × (x ≡ Ok w)
@@ -22,6 +24,13 @@ answered_ok (Err r) h = absurd cc
 pub answered_err : (x : Result Writing Refusal) (e : Refusal) → Err e ≡ answered x → x ≡ Err e
 answered_err (Ok w) e h = absurd cc
 answered_err (Err r) e h = cc
+
+-- a list that ends where its first line fits has no entry
+pub headed_place : (code bays room n : ℕ) (o : Option ℕ) (w : Writing) → fitted room 0 n ≡ o → headed code bays o ≡ Ok w → (w.place ≡ n) × (w.entries ≡ 0)
+headed_place code bays room n None w is h = absurd cc
+headed_place code bays room n (Some end) w is h =
+    let same : w ≡ record { code = code; bays = bays; place = end; entries = 0 } = cc in
+    (ap (λ x. x.place) same ∙ omega (arith, (fits_room room 0 n end is).0), ap (λ x. x.entries) same)
 
 -- a list that was begun has its first line and no entry
 pub begins_place : (kind : Wording) (code room bays : ℕ) (w : Writing) → begins kind code room bays ≡ Ok w → (w.place ≡ length (first_line kind bays)) × (w.entries ≡ 0)
