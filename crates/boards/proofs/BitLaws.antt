@@ -1,10 +1,10 @@
 -- Bits of numbers, and the number of a set. Assumes nothing.
-use Rattle.std.proofs.Common.{◌≡◌, ℕ, zero, suc, ◌+◌, ◌^◌, ◌<◌, ◌≤◌, Bool, true, false, cond, not, ◌&&◌, ◌||◌, eqb, ltb, ◌⊎◌, refl, ap, ◌∙◌, inl, inr, add-zero, one-mul, arith, w32}
+use Rattle.std.proofs.Common.{◌≡◌, ℕ, zero, suc, ◌+◌, ◌^◌, ◌<◌, ◌≤◌, Bool, true, false, cond, not, ◌&&◌, ◌||◌, eqb, ltb, ◌⊎◌, refl, ap, ◌∙◌, inl, inr, ⊎_elim, add-zero, one-mul, arith, w32}
 use native.Mathlib.Nat.{two-pow-succ}
 use lib.Bits.{bit_and, bit_or, bit_xor, or_shifted_r}
 use Rattle.std.specs.Int.{bit_not}
 use Rattle.std.proofs.lemmas.Nat.Bits.{bit_at_and, bit_at_or, bit_at_xor, bit_at_not, bit_at-pow_same, bit_at-pow_other, bit_at_above, bit_at-lt, same_from_bits_below}
-use Rattle.std.proofs.lemmas.Bool.{cases_eq, cases_lt}
+use Rattle.std.proofs.lemmas.Bool.{both_ways, cases_eq, cases_lt}
 use Rattle.std.proofs.lemmas.Bool.Decides.{nat_tests}
 use Rattle.boards.specs.BaySets.{bit, set_number}
 
@@ -22,12 +22,20 @@ bit_xor_lem s t k = let e = bit_at_xor s t k in let p = bit_at-lt s k in let q =
 pub bit_beyond : (n s k : ℕ) → s < 2 ^ n → n ≤ k → bit s k ≡ false
 bit_beyond n s k h le = ap (λ d. eqb d 1) (bit_at_above s n k h le)
 
+pub bit_within : (n s k : ℕ) → s < 2 ^ n → bit s k ≡ true → k < n
+bit_within n s k h e =
+    ⊎_elim (λ l. l) (λ l. absurd (both_ways (bit s k) (bit_beyond n s k h l) e)) (cases_lt k n)
+
 pub bit_zero : (k : ℕ) → bit 0 k ≡ false
 bit_zero k = bit_beyond 0 0 k (omega arith) (omega arith)
 
 -- the bits of s that are not bits of t
-pub bit_clear : (s t k : ℕ) → s < 2 ^ 32 → t < 2 ^ 32 → bit (bit_and s (bit_not w32 t)) k ≡ (not (bit t k) && bit s k)
-bit_clear s t k hs ht = at (cases_lt k 32)
+pub bit_clear : (s t k : ℕ) → bit (bit_xor s (bit_and s t)) k ≡ (not (bit t k) && bit s k)
+bit_clear s t k = let e = bit_xor_lem s (bit_and s t) k in let both = bit_and_lem s t k in grind (arith, nat_tests)
+
+-- the same, as a word keeps the bits that another word has not
+pub bit_clear_word : (s t k : ℕ) → s < 2 ^ 32 → t < 2 ^ 32 → bit (bit_and s (bit_not w32 t)) k ≡ (not (bit t k) && bit s k)
+bit_clear_word s t k hs ht = at (cases_lt k 32)
   where
     at : (k < 32) ⊎ (32 ≤ k) → bit (bit_and s (bit_not w32 t)) k ≡ (not (bit t k) && bit s k)
     at (inl low) = let e = bit_at_not w32 t k ht low in let q = bit_at-lt t k in bit_and_lem s (bit_not w32 t) k ∙ grind (arith, nat_tests)

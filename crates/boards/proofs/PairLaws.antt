@@ -1,6 +1,6 @@
 -- Lists of pairs of bays: what is in them, and that there is room for another. Assumes nothing.
-use Rattle.std.specs.Prelude.{◌≡◌, ℕ, ◌+◌, ◌*◌, ◌/◌, ◌%◌, ◌<◌, Bool, true, false, ◌||◌, List, [], ◌∷◌, ◌++◌, length, take, drop, filter, slice_index_or, refl}
-use Rattle.std.proofs.Common.{sym, ap₂, ◌∙◌, arith}
+use Rattle.std.specs.Prelude.{◌≡◌, ℕ, ◌+◌, ◌*◌, ◌/◌, ◌%◌, ◌^◌, ◌<◌, Bool, true, false, ◌&&◌, ◌||◌, List, [], ◌∷◌, ◌++◌, length, take, drop, filter, fold, slice_index_or, refl}
+use Rattle.std.proofs.Common.{eqb, sym, ap₂, ◌∙◌, arith}
 use Rattle.std.proofs.lemmas.Nat.{div-mul-add, mod-mul-add}
 use Rattle.std.specs.List.{list_any}
 use Rattle.std.proofs.lemmas.List.{at_drop_more}
@@ -8,8 +8,10 @@ use Rattle.std.proofs.lemmas.List.Folds.{list_any-append, list_any_more}
 use Rattle.std.proofs.lemmas.Bool.{cond_both}
 use Rattle.std.proofs.lemmas.Bool.Decides.{nat_tests}
 use Rattle.boards.specs.declared.pair.Pair.{Pair}
+use Rattle.boards.specs.BaySets.{bit, set_number, with_bay}
 use Rattle.boards.specs.Boards.{SameLinks, with_pair, without_pairs_of}
 use Rattle.boards.specs.PairLists.{is_pair, listed_links, none_twice, spares}
+use Rattle.boards.proofs.BitLaws.{bit_zero, bit_number, number_below, number_from_bits, number_same}
 use Rattle.boards.proofs.Counts.{passing, passing_le, passing_none, passing_more}
 
 -- one more pair at the end
@@ -85,3 +87,18 @@ pushed ps p once new =
       once = once_push p ps new once;
       links = λ a b. listed_push p ps a b ∙ grind (arith, nat_tests);
     }
+
+-- the bays that those pairs name which pass a test, gathered one by one; whether a pair names bay k so is told by `named`
+module _ (test : Pair → Bool) (name : Pair → ℕ) (named : ℕ → Pair → Bool) (is : (k : ℕ) (p : Pair) → named k p ≡ (test p && eqb (name p) k)) where
+  abbrev gathered : ℕ → Pair → ℕ
+  gathered s p = set_number (with_bay s (name p)) 32
+
+  gathered_from : (ps : List Pair) (s : ℕ) → s < 2 ^ 32 → fold gathered s (filter test ps) ≡ set_number (λ k. bit s k || list_any (named k) ps) 32
+  gathered_from [] s narrow = number_from_bits _ 32 s narrow (λ k l. grind arith)
+  gathered_from (p ∷ ps) s narrow =
+      cond_both (test p) (p ∷ filter test ps) (filter test ps) (λ l. fold gathered s l ≡ set_number (λ k. bit s k || list_any (named k) (p ∷ ps)) 32)
+      (λ e. gathered_from ps (gathered s p) (number_below (with_bay s (name p)) 32) ∙ number_same _ _ 32 (λ k l. let one = bit_number (with_bay s (name p)) 32 k in let here = is k p in grind (arith, nat_tests)))
+      (λ e. gathered_from ps s narrow ∙ number_same _ _ 32 (λ k l. let here = is k p in grind arith))
+
+  pub gathered_all : (ps : List Pair) → fold gathered 0 (filter test ps) ≡ set_number (λ k. list_any (named k) ps) 32
+  gathered_all ps = gathered_from ps 0 (omega arith) ∙ number_same _ _ 32 (λ k l. let none = bit_zero k in grind arith)

@@ -1,9 +1,19 @@
-use Rattle.std.proofs.Common.{rules}
-use Rattle.boards.proofs.BoardLaws.{bays_answered}
+use Rattle.std.proofs.Common.{Ok, ap, ◌∙◌, eqb, arith, rules, tests}
+use Rattle.std.proofs.lemmas.Iterator.{YieldsList-from_slice}
+use Rattle.std.proofs.lemmas.Iterator.Consumers.{YieldsList-from_filter, fold_from_yields_List}
+use Rattle.std.proofs.lemmas.Bool.Decides.{nat_tests}
+use Rattle.boards.specs.declared.pair.Pair.{Pair}
+use Rattle.boards.specs.BaySets.{set_number, with_bay}
+use Rattle.boards.specs.PairLists.{is_pair}
+use Rattle.boards.proofs.PairLaws.{gathered_all}
 use Rattle.boards.proofs.pair_list.PairListBoard.links_out.Goals as goal
 
 pub returns-clause-answer : goal.returns-clause-answer
 returns-clause-answer c =
-    let named = c.in_ok-bay.ensures in
-    bays_answered _ c.args.bay c.bays_that.result named.0 c.bays_that.type_inv
-    (λ k l. let said = c.bays_that.ensures (record { number = k; below = l }) in search (rules, named))
+    let said = c.in_ok-bay.ensures in let pairs = c.args.self.now.pairs.items in let bay = c.in_ok-bay.bay.number in
+    let gathered =
+    fold_from_yields_List _ (λ s (p : Pair). set_number (with_bay s p.to.number) 32) 0 c.fold.result c.fold.ensures.ran
+    (YieldsList-from_filter _ (λ (p : Pair). eqb p.from.number bay) (YieldsList-from_slice pairs cc) c.filter.ensures.closure (λ x b q k. search (rules, tests)))
+    (λ a x b q k. search (rules, tests)) in
+    let all = gathered_all (λ p. eqb p.from.number bay) (λ p. p.to.number) (λ k. is_pair c.args.bay k) (λ k p. grind (arith, nat_tests)) pairs in
+    ap Ok (gathered ∙ all) ∙ grind (arith, nat_tests)
