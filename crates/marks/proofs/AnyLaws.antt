@@ -1,9 +1,9 @@
 -- Tests of the marks of a list: whether some mark passes, and which one. Assumes nothing.
-use Rattle.std.proofs.Common.{◌≡◌, ℕ, zero, suc, Bool, true, false, ◌&&◌, ◌||◌, List, [], ◌∷◌, map, set, refl, ap, ap₂, ⊎_elim, arith}
+use Rattle.std.proofs.Common.{◌≡◌, ℕ, zero, suc, ◌<◌, Bool, true, false, ◌&&◌, ◌||◌, List, [], ◌∷◌, map, length, set, refl, ap, ap₂, ⊎_elim, arith}
 use Rattle.std.specs.List.{list_any}
-use Rattle.std.proofs.lemmas.Bool.{or_cases, or_from, or_left, or_right}
-use Rattle.marks.specs.Marks.{MarkMeant, is_vacant}
-use Rattle.marks.specs.Places.{VacantAt}
+use Rattle.std.proofs.lemmas.Bool.{both_ways, cases_Bool, or_cases, or_from, or_left, or_right}
+use Rattle.marks.specs.Marks.{MarkMeant}
+use Rattle.marks.specs.Places.{mark_at}
 
 module _ (test : MarkMeant → Bool) where
   -- where some mark passes, there is one that does
@@ -19,11 +19,11 @@ module _ (test : MarkMeant → Bool) where
   any_map f [] = refl
   any_map f (x ∷ xs) = ap (λ y. test (f x) || y) (any_map f xs)
 
-  -- a vacant mark is written over, and no vacant mark passes
-  pub any_set : (ms : List MarkMeant) (p : ℕ) (n : MarkMeant) → VacantAt ms p → ((m : MarkMeant) → is_vacant m ≡ true → test m ≡ false) → list_any test (set ms p n) ≡ (test n || list_any test ms)
-  any_set [] p n at out = absurd (omega (arith, at.0))
-  any_set (m ∷ ms) zero n at out = let old = out m at.1 in grind arith
-  any_set (m ∷ ms) (suc p) n at out = let rest = any_set ms p n (omega (arith, at.0), at.1) out in grind arith
+  -- a mark is written over that did not pass
+  pub any_set : (ms : List MarkMeant) (p : ℕ) (n : MarkMeant) (was : MarkMeant → Bool) → (p < length ms) × (was (mark_at ms p) ≡ true) → ((m : MarkMeant) → was m ≡ true → test m ≡ false) → list_any test (set ms p n) ≡ (test n || list_any test ms)
+  any_set [] p n was at out = absurd (omega (arith, at.0))
+  any_set (m ∷ ms) zero n was at out = let old = out m at.1 in grind arith
+  any_set (m ∷ ms) (suc p) n was at out = let rest = any_set ms p n was (omega (arith, at.0), at.1) out in grind arith
 
   pub any_and : (q : Bool) (ms : List MarkMeant) → list_any (λ m. q && test m) ms ≡ (q && list_any test ms)
   any_and q [] = grind arith
@@ -43,3 +43,7 @@ module _ (test : MarkMeant → Bool) where
     any_weaker h [] e = e
     any_weaker h (m ∷ ms) e =
         ⊎_elim (λ here. or_left (other m) (list_any other ms) (h m here)) (λ there. or_right (other m) (list_any other ms) (any_weaker h ms there)) (or_cases (test m) (list_any test ms) e)
+
+    pub any_weaker_none : ((m : MarkMeant) → test m ≡ true → other m ≡ true) → (ms : List MarkMeant) → list_any other ms ≡ false → list_any test ms ≡ false
+    any_weaker_none h ms e =
+        ⊎_elim (λ t. absurd (both_ways (list_any other ms) e (any_weaker h ms t))) (λ f. f) (cases_Bool (list_any test ms))

@@ -66,6 +66,9 @@ kept_apart (m ∷ ms) (n ∷ ns) ks e =
 minus_none : (bay : ℕ) → minus_bay 0 bay ≡ 0
 minus_none bay = sym (number_from_bits (without_bay 0 bay) 32 0 (omega arith) (λ k l. let none = bit_zero k in grind arith))
 
+pub vacated_kept : (m : MarkMeant) → Kept m (vacated m)
+vacated_kept m = record { fields = refl; mode = refl; vacant = λ e. refl }
+
 pub inherits_kept : (bay takers : ℕ) (m : MarkMeant) → Kept m (inherits bay takers m)
 inherits_kept bay takers m =
     record {
@@ -117,7 +120,7 @@ module _ (bay : ℕ) (fs : List ℕ) (mode : Mode) where
       let own = is_held_of m.fields m.mode in let fresh = joins bay (fresh_mark fs mode) in
       let parts = and_parts (is_vacant m || not (list_any own ms)) (told_apart ms) e in
       let none = or_parts (is_held_of fs mode m) (list_any (is_held_of fs mode) ms) new in
-      let after = any_set own ms p fresh (omega (arith, v.0), v.1) (λ n t. held_not_vacant m.fields m.mode n t) in
+      let after = any_set own ms p fresh is_vacant (omega (arith, v.0), v.1) (λ n t. held_not_vacant m.fields m.mode n t) in
       and_from _ _
       (still_apart (is_vacant m) (is_of fs mode m) (is_of m.fields m.mode fresh) (not (is_vacant fresh)) (list_any own ms) (list_any own (set ms p fresh)) parts.0 none.0 (access_comm m.fields m.mode fs mode) after)
       (apart_set ms p (omega (arith, v.0), v.1) none.1 parts.1)

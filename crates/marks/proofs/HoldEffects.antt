@@ -1,11 +1,13 @@
 -- What holding does to the two relations, and to which fields and mode are held. Assumes nothing.
-use Rattle.std.proofs.Common.{◌≡◌, ℕ, ◌<◌, Bool, true, false, cond, ◌&&◌, ◌||◌, eqb, List, [], ◌∷◌, length, set, refl, ap, ◌∙◌, arith}
+use Rattle.std.proofs.Common.{◌≡◌, ℕ, ◌<◌, Bool, true, false, cond, ◌&&◌, ◌||◌, eqb, ◌⊎◌, List, [], ◌∷◌, length, set, sym, refl, ap, ◌∙◌, inl, inr, arith}
 use Rattle.std.specs.List.{list_any}
 use Rattle.std.proofs.lemmas.List.{length-set}
-use Rattle.std.proofs.lemmas.Bool.{and_parts, both_ways, cond_both}
+use Rattle.std.proofs.lemmas.Bool.{and_parts, both_ways, cases_eq, cond_both, eq-eqb}
+use Rattle.std.proofs.lemmas.Bool.Decides.{nat_tests}
 use Rattle.items.specs.declared.mode.Mode.{Mode}
 use Rattle.boards.specs.BaySets.{bit}
 use Rattle.boards.proofs.BitLaws.{bit_zero}
+use Rattle.marks.specs.Holders.{plus_bay}
 use Rattle.marks.specs.Marks.{MarkMeant, same_access, is_vacant, is_of, is_held_of, fresh_mark, joins}
 use Rattle.marks.specs.Places.{VacantAt}
 use Rattle.marks.specs.Holding.{holds_own, holds_inherited}
@@ -14,6 +16,17 @@ use Rattle.marks.proofs.SameLaws.{access_like}
 use Rattle.marks.proofs.AnyLaws.{any_set}
 use Rattle.marks.proofs.BayLaws.{bit_plus}
 use Rattle.marks.proofs.HoldsLaws.{vacant_own, vacant_inherited}
+
+-- a mark that a bay has joined is held
+pub joined_held : (bay : ℕ) → bay < 32 → (m : MarkMeant) → is_vacant (joins bay m) ≡ false
+joined_held bay low m = at (cases_eq (plus_bay m.own bay) 0)
+  where
+    has : bit (plus_bay m.own bay) bay ≡ true
+    has = bit_plus bay low m.own bay ∙ ap (λ x. x || bit m.own bay) (eq-eqb bay bay refl)
+
+    at : (plus_bay m.own bay ≡ 0) ⊎ (plus_bay m.own bay ≡ 0 → ⊥) → is_vacant (joins bay m) ≡ false
+    at (inl e) = absurd (both_ways (bit 0 bay) (bit_zero bay) (sym (ap (λ s. bit s bay) e) ∙ has))
+    at (inr ne) = grind (arith, nat_tests)
 
 module _ (bay : ℕ) (fs : List ℕ) (mode : Mode) where
   any_first : (test : MarkMeant → Bool) (more : Bool) → ((m : MarkMeant) → is_held_of fs mode m ≡ true → test (joins bay m) ≡ (more || test m)) → (ms : List MarkMeant) → list_any (is_held_of fs mode) ms ≡ true → list_any test (first_joined bay fs mode ms) ≡ (more || list_any test ms)
@@ -40,6 +53,10 @@ module _ (bay : ℕ) (fs : List ℕ) (mode : Mode) where
         at false true e f a s = rw s.2 (vacant a e s.0 s.1)
         at false false e f a s = rw s (nowhere a e f)
 
+    pub hold_refused : HoldStep bay fs mode ms false after → (after ≡ ms) × (list_any (is_held_of fs mode) ms ≡ false) × (list_any is_vacant ms ≡ false)
+    hold_refused h =
+        hold_cases (λ l. (l ≡ ms) × (list_any (is_held_of fs mode) ms ≡ false) × (list_any is_vacant ms ≡ false)) false h (λ z. absurd (both_ways false refl z)) (λ z. absurd (both_ways false refl z)) (λ z e f. (refl, e, f))
+
     pub hold_length : (was-done : Bool) → HoldStep bay fs mode ms was-done after → length after ≡ length ms
     hold_length was-done h =
         hold_cases (λ l. length l ≡ length ms) was-done h (λ z e. length_first ms) (λ z e p v. length-set ms p _) (λ z e f. refl)
@@ -48,7 +65,7 @@ module _ (bay : ℕ) (fs : List ℕ) (mode : Mode) where
     hold-any : (test : MarkMeant → Bool) (more : Bool) → ((m : MarkMeant) → is_held_of fs mode m ≡ true → test (joins bay m) ≡ (more || test m)) → test (joins bay (fresh_mark fs mode)) ≡ more → ((m : MarkMeant) → is_vacant m ≡ true → test m ≡ false) → HoldStep bay fs mode ms true after → list_any test after ≡ (more || list_any test ms)
     hold-any test more joined fresh none h =
         hold_cases (λ l. list_any test l ≡ (more || list_any test ms)) true h (λ z e. any_first test more joined ms e)
-        (λ z e p v. any_set test ms p (joins bay (fresh_mark fs mode)) v none ∙ ap (λ x. x || list_any test ms) fresh)
+        (λ z e p v. any_set test ms p (joins bay (fresh_mark fs mode)) is_vacant v none ∙ ap (λ x. x || list_any test ms) fresh)
         (λ z. absurd (both_ways true z refl))
 
     -- after a hold that was done
@@ -70,4 +87,12 @@ module _ (bay : ℕ) (fs : List ℕ) (mode : Mode) where
           (λ m e. refl)
           (let none = bit_zero b in grind arith)
           (λ m e. let none = vacant_inherited m b e in grind arith)
+          h
+
+      pub hold_held : bay < 32 → list_any (is_held_of gs other) after ≡ (same_access fs mode gs other || list_any (is_held_of gs other) ms)
+      hold_held low =
+          hold-any (is_held_of gs other) (same_access fs mode gs other)
+          (λ m e. let held = joined_held bay low m in let same = like m e in grind arith)
+          (let held = joined_held bay low (fresh_mark fs mode) in grind arith)
+          (λ m e. grind arith)
           h

@@ -5,27 +5,23 @@ use Rattle.std.proofs.lemmas.Bool.{cond-true, lt-ltb}
 use Rattle.std.proofs.lemmas.List.Folds.{list_any_more}
 use Rattle.std.proofs.lemmas.List.{length-map}
 use Rattle.items.specs.declared.mode.Mode.{Mode}
-use Rattle.marks.specs.declared.slices.Place.{Place}
-use Rattle.marks.specs.declared.slices.Place.TheVariants.{Held, Vacant}
 use Rattle.marks.specs.Marks.{MarkMeant, is_vacant, is_held_of}
 use Rattle.marks.specs.Places.{VacantAt}
 use Rattle.marks.proofs.SliceLaws.{read_here}
 
 -- what is remembered of the first i marks: a vacant one, or that none is
-abbrev pub Spare : List MarkMeant → ℕ → Option Place → Type 0
-Spare ms i (Some (Held p)) = ⊥
-Spare ms i (Some (Vacant p)) = VacantAt ms p
+abbrev pub Spare : List MarkMeant → ℕ → Option ℕ → Type 0
+Spare ms i (Some p) = VacantAt ms p
 Spare ms i None = list_any is_vacant (take i ms) ≡ false
 
 -- none of the first i marks is the one that is looked for
-abbrev pub Searched : List MarkMeant → List ℕ → Mode → ℕ → Option Place → Type 0
+abbrev pub Searched : List MarkMeant → List ℕ → Mode → ℕ → Option ℕ → Type 0
 Searched ms fs mode i spare = (list_any (is_held_of fs mode) (take i ms) ≡ false) × Spare ms i spare
 
 module _ (ms : List MarkMeant) where
   -- one mark more is read, and what is remembered stays: it is a vacant mark, or this mark is held too
-  pub spare_more : (i j : ℕ) (here : Bool) → list_any is_vacant (take j ms) ≡ (list_any is_vacant (take i ms) || here) → (spare : Option Place) → (is_some spare ≡ false → here ≡ false) → Spare ms i spare → Spare ms j spare
-  spare_more i j here more (Some (Held p)) e s = s
-  spare_more i j here more (Some (Vacant p)) e s = s
+  pub spare_more : (i j : ℕ) (here : Bool) → list_any is_vacant (take j ms) ≡ (list_any is_vacant (take i ms) || here) → (spare : Option ℕ) → (is_some spare ≡ false → here ≡ false) → Spare ms i spare → Spare ms j spare
+  spare_more i j here more (Some p) e s = s
   spare_more i j here more None e s = let held = e refl in grind arith
 
 module _ (test : MarkMeant → Bool) where

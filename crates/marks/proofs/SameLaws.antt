@@ -1,5 +1,5 @@
 -- Fields and modes that are tested for sameness. Assumes nothing.
-use Rattle.std.proofs.Common.{◌≡◌, ℕ, true, List, [], ◌∷◌, refl, ap₂, arith}
+use Rattle.std.proofs.Common.{◌≡◌, ℕ, true, List, [], ◌∷◌, Decides, sym, refl, ◌∙◌, ap₂, arith}
 use Rattle.std.proofs.lemmas.Bool.{eq-eqb, eqb-true, and_from, and_parts}
 use Rattle.std.proofs.lemmas.Bool.Decides.{nat_tests}
 use Rattle.items.proofs.FieldLists.{same_fields_comm}
@@ -32,6 +32,12 @@ module _ (fs : List ℕ) (m : Mode) where
 
   pub access_comm : (gs : List ℕ) (n : Mode) → same_access fs m gs n ≡ same_access gs n fs m
   access_comm gs n = let fields = same_fields_comm fs gs in grind (arith, nat_tests)
+
+  pub access_decides : (gs : List ℕ) (n : Mode) → Decides (same_access fs m gs n) ((fs ≡ gs) × (m ≡ n))
+  access_decides gs n = (
+    access_equal gs n,
+    λ e. sym (ap₂ (same_access fs m) e.0 e.1) ∙ access_same,
+  )
 
   -- the same access is the same as the same others
   pub access_like : (gs : List ℕ) (n : Mode) → same_access fs m gs n ≡ true → (hs : List ℕ) (o : Mode) → same_access fs m hs o ≡ same_access gs n hs o

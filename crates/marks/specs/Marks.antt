@@ -17,7 +17,7 @@ pub record MarkMeant : Type 0 where
 
 -- what a mark means, where an item means its fields
 abbrev pub meant_mark : {I : Type 0} → (I → List ℕ) → Mark I → MarkMeant
-meant_mark f m = record { fields = f m.access.item; mode = m.access.mode; own = m.own; inherited = m.inherited }
+meant_mark f m = record { fields = f m.item; mode = m.mode; own = m.own; inherited = m.inherited }
 
 -- what a list of marks means
 abbrev pub meant_marks : {I : Type 0} → (I → List ℕ) → List (Mark I) → List MarkMeant

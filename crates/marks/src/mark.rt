@@ -11,7 +11,10 @@ use items::{Kind, Mode};
 // model of what is copied must give the item back, and an item's fields don't.
 #[derive(Clone, Copy)]
 pub struct Mark<I> {
-    pub(crate) access: Access<I>,
+    // The access lies flat beside its holders: as one value within a mark it was copied apart, through the stack, each time
+    // that a pass changed the holders.
+    pub(crate) item: I,
+    pub(crate) mode: Mode,
     pub(crate) own: u32,
     pub(crate) inherited: u32,
 }
@@ -21,8 +24,10 @@ impl<I: Kind + Copy> Mark<I> {
     fn fresh(access: Access<I>) -> Mark<I>
         ensures { meant_mark I.Kind.fields result ≡ fresh_mark (I.Kind.fields access.item) access.mode }
     {
+        let Access { item, mode } = access;
         Mark {
-            access,
+            item,
+            mode,
             own: 0,
             inherited: 0,
         }
@@ -49,7 +54,7 @@ impl<I: Kind + Copy> Mark<I> {
     pub(crate) fn is_of(&self, access: &Access<I>) -> bool
         ensures { result ≡ is_of (I.Kind.fields access.now.item) access.now.mode (meant_mark I.Kind.fields self.now) }
     {
-        self.access.is_same(access)
+        self.item.same(&access.item) && self.mode == access.mode
     }
 
     // Whether a bay holds the mark, as own or as inherited.
@@ -70,7 +75,8 @@ impl<I: Kind + Copy> Mark<I> {
     pub(crate) fn vacated(self) -> Mark<I>
         ensures { meant_mark I.Kind.fields result ≡ vacated (meant_mark I.Kind.fields self) }
     {
-        Mark::fresh(self.access)
+        let Mark { item, mode, .. } = self;
+        Mark::fresh(Access { item, mode })
     }
 
     // The mark when a bay holds it as own too.

@@ -26,16 +26,16 @@ pub(crate) fn find_place<I: Kind + Copy>(marks: &[Mark<I>], access: &Access<I>) 
 {
     // A loop that yields by break, the form that this project gives to the search.
     'search: {
-        let mut spare: Option<Place> = None;
+        let mut spare: Option<usize> = None;
         for (i, mark) in marks.iter().enumerate() {
             if mark.is_of(access) && !mark.is_vacant() {
                 break 'search Some(Place::Held(i));
             }
             if spare.is_none() && mark.is_vacant() {
-                spare = Some(Place::Vacant(i));
+                spare = Some(i);
             }
         }
-        spare
+        spare.map(Place::Vacant)
     }
 }
 
@@ -71,7 +71,7 @@ pub(crate) fn bays_against<I: Kind + Copy>(marks: &[Mark<I>], bay: u8, access: &
 {
     marks
         .iter()
-        .filter(|mark| access.conflicts(&mark.access))
+        .filter(|mark| access.conflicts(&mark.item, mark.mode))
         .fold(0, |bays, mark| with_bays(bays, mark.reached_from(bay)))
 }
 
