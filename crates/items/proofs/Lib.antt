@@ -1,3 +1,4 @@
 pub mod FieldLists
 pub mod Pasting
+pub mod Numbers
 pub mod Fitting

@@ -43,6 +43,18 @@ pasted_pieces d zero s t = rw zero-add (over_pieces d s t)
 pasted_pieces [] (suc at) s t = rw suc-add refl
 pasted_pieces (x ∷ d) (suc at) s t = rw suc-add (ap (λ l. x ∷ l) (pasted_pieces d at s t))
 
+over_back : {A : Type 0} (d s t : List A) → over d (s ++ t) ≡ over (pasted d (length s) t) s
+over_back [] [] t = refl
+over_back [] (y ∷ s) t = refl
+over_back (x ∷ d) [] t = sym (over_none (over (x ∷ d) t))
+over_back (x ∷ d) (y ∷ s) t = ap (λ l. y ∷ l) (over_back d s t)
+
+-- the second of two pieces may be written first
+pub pasted_back : {A : Type 0} (d : List A) (at : ℕ) (s t : List A) → pasted d at (s ++ t) ≡ pasted (pasted d (at + length s) t) at s
+pasted_back d zero s t = rw zero-add (over_back d s t)
+pasted_back [] (suc at) s t = rw suc-add refl
+pasted_back (x ∷ d) (suc at) s t = rw suc-add (ap (λ l. x ∷ l) (pasted_back d at s t))
+
 over_whole : {A : Type 0} (d s : List A) → length s ≤ length d → over d s ≡ s ++ drop (length s) d
 over_whole [] [] h = refl
 over_whole [] (y ∷ s) h = absurd (not-suc-le-zero h)

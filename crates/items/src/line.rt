@@ -40,6 +40,7 @@ fn put_bytes(out: &mut [u8], at: usize, bytes: &[u8])
 }
 
 // Writes a space and a number, and answers the place after them.
+#[inline(always)]
 fn put_spaced(out: &mut [u8], at: usize, n: u64) -> usize
     requires { at + length (spaced n) ≤ length out.old }
     ensures place { result ≡ at + length (spaced n) }
@@ -76,6 +77,7 @@ fn ending_end(room: usize, at: usize, numbers: &[u64]) -> Option<usize>
 }
 
 // The place after such a line, where it fits into the room.
+#[inline(always)]
 pub fn line_end(room: usize, at: usize, word: &[u8], first: u64, rest: &[u64]) -> Option<usize>
     ensures { result ≡ fitted room at (length (line word.now (first ∷ rest.now))) }
 {
