@@ -1,5 +1,6 @@
 // A log in a file, and what is printed of it.
 use crate::cut::{Filling, cut};
+use items::Refusal;
 use packed::MOST_BYTES;
 use std::fs::File;
 use std::io::{Read, Write};
@@ -9,6 +10,14 @@ use translate::log_to_text;
 pub struct Sample<'a> {
     name: &'a str,
     log: Vec<u8>,
+}
+
+// Prints the line of a refusal, which is made in memory that is lent.
+fn print_refusal(rt: &HostRuntime, refusal: Refusal) -> anyhow::Result<()> {
+    let mut line = [0u8; 64];
+    let length = refusal.write(&mut line).unwrap_or(0);
+    rt.stdout().write_all(line.get(..length).unwrap_or(&[]))?;
+    Ok(())
 }
 
 impl<'a> Sample<'a> {
@@ -29,7 +38,10 @@ impl<'a> Sample<'a> {
                 println!(rt; "{name}:")?;
                 rt.stdout().write_all(memory.get(..length).unwrap_or(&[]))?;
             }
-            Err(refusal) => println!(rt; "{name}: {refusal}")?,
+            Err(refusal) => {
+                print!(rt; "{name}: ")?;
+                print_refusal(rt, refusal)?;
+            }
         }
         Ok(())
     }
@@ -47,7 +59,7 @@ impl<'a> Sample<'a> {
         print!(rt; "{name} bit {bits} {filling}: ")?;
         match log_to_text(front.as_slice(), memory) {
             Ok(length) => println!(rt; "list of {length} bytes")?,
-            Err(refusal) => println!(rt; "{refusal}")?,
+            Err(refusal) => print_refusal(rt, refusal)?,
         }
         Ok(())
     }
